@@ -1,0 +1,28 @@
+-- The names of a list, one by one. Assumes nothing.
+use mathlib.Core.Path.{_≡_, sym, ap, subst, _∙_}
+use mathlib.Core.List.{List, []}
+use Prim.Native.Nat.{ℕ, _<_, _≤_}
+use native.Mathlib.Omega.{arith}
+use lib.ListN.{length, getD, take}
+use Rattle.std.proofs.shelf.Lists.{getD-map, length-map, getD-take, length-take-le}
+use Rattle.name.specs.Held.{name-bytes}
+use Rattle.name.specs.declared.name.Name.{Name}
+use Rattle.events.specs.Lists.{first-names}
+use Rattle.events.specs.Held.{names-in}
+use Rattle.events.specs.declared.list.EventList.{EventList}
+
+pub names-length : (entries : List Name) (n : ℕ) → n ≤ length entries → length (first-names n entries) ≡ n
+names-length entries n h = length-map (take n entries) name-bytes ∙ length-take-le n entries h
+
+pub name-at : (entries : List Name) (n k : ℕ) (d : Name) → n ≤ length entries → k < n → getD (first-names n entries) k [] ≡ name-bytes (getD entries k d)
+name-at entries n k d h l =
+    getD-map name-bytes (take n entries) k d [] (subst (λ m. k < m) (sym (length-take-le n entries h)) l)
+    ∙ ap name-bytes (getD-take n entries k d l)
+
+-- an event list has as many names as its count says
+pub held-length : (list : EventList) → length (names-in list) ≡ list .count
+held-length list = names-length (list .entries) (list .count) (omega (arith, list .whole, list .some))
+
+-- name k of an event list
+pub held-name : (list : EventList) (k : ℕ) (d : Name) → k < list .count → getD (names-in list) k [] ≡ name-bytes (getD (list .entries) k d)
+held-name list k d h = name-at (list .entries) (list .count) k d (omega (arith, list .whole, list .some)) h

@@ -1,0 +1,3 @@
+pub mod Breaking
+pub mod Keeping
+pub mod Reading

@@ -1,0 +1,5 @@
+pub mod Bytes
+pub mod Kinds
+pub mod Images
+pub mod Opened
+pub mod Inner
