@@ -37,12 +37,14 @@ one-list bs names others e f =
 pub image-kept : (bs : Bytes) (names : List Bytes) → EventImage bs names → Kept (event-rules bs)
 image-kept bs names e =
     let n = e .counted in
-    kept-both (image-rules Events bs) (rule NameRepeated (AtPair bs (Repeated bs)) no-more) (valid-kept Events bs (e .valid))
-    (λ p b. let i = b .0 in
-        let j = b .3 .0 in
-        let same = e .spelled j (omega (arith, b .1, b .3 .1)) ∙ b .3 .2 ∙ sym (e .spelled i (b .1)) in
-        let q = e .distinct j i (omega (arith, b .1, b .3 .1)) (omega (arith, b .1)) same in
-        omega (arith, b .3 .1), tt)
+    kept-both (image-rules Events bs) (rule NameRepeated (AtPair bs (Repeated bs)) no-more) (valid-kept Events bs (e .valid)) (
+      λ p b. let i = b .0 in
+          let j = b .3 .0 in
+          let same = e .spelled j (omega (arith, b .1, b .3 .1)) ∙ b .3 .2 ∙ sym (e .spelled i (b .1)) in
+          let q = e .distinct j i (omega (arith, b .1, b .3 .1)) (omega (arith, b .1)) same in
+          omega (arith, b .3 .1),
+      tt,
+    )
 
 -- bytes that are refused spell no names
 pub spells-none : (bs : Bytes) (r : Refusal) → FirstBroken (event-rules bs) r → (names : List Bytes) → EventImage bs names → ⊥

@@ -43,14 +43,14 @@ module _ (bs : Bytes) (placed : (i : ℕ) → i < count-of bs → Placed bs i) w
             ⊎-elim
             (λ earlier. absurd (b .5 (before (b .0) earlier (b .1) (b .4))))
             (λ at-or-after.
-                ⊎-elim
-                (λ after. omega (arith, b .3, apart i (b .0) after (b .2), item-inside kind i k h item))
-                (λ here. let e : b .0 ≡ i = omega arith in
-                    ⊎-elim
-                    (λ sooner-here. absurd (b .5 (subst (λ m. WellFormed kind (count-of bs) (part-of bs m) (b .1)) (sym e) (sooner (b .1) sooner-here (subst (λ m. ItemAt kind (part-of bs m) (b .1)) e (b .4))))))
-                    (λ later-here. let o = ap (offset-of bs) e in omega (arith, b .3, o))
-                    (cases-lt (b .1) k))
-                (cases-lt i (b .0)))
+            ⊎-elim
+            (λ after. omega (arith, b .3, apart i (b .0) after (b .2), item-inside kind i k h item))
+            (λ here. let e : b .0 ≡ i = omega arith in
+            ⊎-elim
+            (λ sooner-here. absurd (b .5 (subst (λ m. WellFormed kind (count-of bs) (part-of bs m) (b .1)) (sym e) (sooner (b .1) sooner-here (subst (λ m. ItemAt kind (part-of bs m) (b .1)) e (b .4))))))
+            (λ later-here. let o = ap (offset-of bs) e in omega (arith, b .3, o))
+            (cases-lt (b .1) k))
+            (cases-lt i (b .0)))
             (cases-lt (b .0) i);
         named = refl;
       })

@@ -17,7 +17,6 @@ _and-then_ no-more others = others
 _and-then_ (rule why Broken later) others = rule why Broken (later and-then others)
 
 infixr 20 _and-then_
-
 -- a rule that is broken nowhere
 abbrev pub Nowhere : (ℕ → Type 0) → Type 0
 Nowhere Broken = (p : ℕ) → Broken p → ⊥

@@ -12,8 +12,7 @@ use Rattle.image.proofs.kinds.first_wrong_exit.Needs as need
 pub returns-then-not-exit-stands : need.returns-then-not-exit-stands
 returns-then-not-exit-stands c =
     let part = c .args .part .now in
-    let j = c .loop-j .j in
-    (
+    let j = c .loop-j .j in (
       (omega arith, omega arith, omega arith),
       not-from-decides (c .exit-stands .result) (c .exit-stands .ensures) (c .if-not-exit-stands .taken),
       λ k h item. let e = exit-number part k item in

@@ -1,0 +1,4 @@
+pub mod Spelling
+pub mod States
+pub mod Bounded
+pub mod Opening
