@@ -29,7 +29,7 @@ impl Exits {
     pub fn len(&self) -> usize
         ensures { λ r. ⌜ r ≡ length (exits-in (now (self .entry))) ⌝ }
     {
-        self.count
+        self.as_slice().len()
     }
 
     /// Exit k, or none where there are k or fewer.

@@ -1,0 +1,206 @@
+//! Calls on a small list and a small graph, with answers from the rules.
+use events::list::EventList;
+use graph::Graph;
+use graph::exit::Exit;
+use graph::exits::Exits;
+use image_graph::held::ImageGraph;
+use image_graph::reads::ImageGraphReads;
+use refusal::Reason;
+use refusal::Refusal;
+use refusal::cause::Cause;
+use std::alloc::Global;
+use std::test::*;
+
+// Two events, a and b.
+const NAMES: [u8; 22] = [
+    1,
+    0,
+    2,
+    0,
+    20,
+    0,
+    0,
+    0,
+    1,
+    0,
+    0,
+    0,
+    21,
+    0,
+    0,
+    0,
+    1,
+    0,
+    0,
+    0,
+    b'a',
+    b'b',
+];
+
+// State 0 (line 10) leaves by event 0 to 1 and by event 1 to 2, state 1 is closed, state 2 (line 30) has no exits.
+const STATES: [u8; 44] = [
+    2,
+    0,
+    3,
+    0,
+    28,
+    0,
+    0,
+    0,
+    12,
+    0,
+    0,
+    0,
+    40,
+    0,
+    0,
+    0,
+    0,
+    0,
+    0,
+    0,
+    40,
+    0,
+    0,
+    0,
+    4,
+    0,
+    0,
+    0,
+    10,
+    0,
+    0,
+    0,
+    0,
+    0,
+    1,
+    0,
+    1,
+    0,
+    2,
+    0,
+    30,
+    0,
+    0,
+    0,
+];
+
+fn two_events(heap: Global) -> Result<EventList, Fail> {
+    match EventList::load(NAMES.to_vec(heap)?) {
+        Ok(list) => Ok(list),
+        Err(_) => Err(Fail::new("refused")),
+    }
+}
+
+fn three_states(heap: Global) -> Result<ImageGraph, Fail> {
+    match ImageGraph::load(STATES.to_vec(heap)?) {
+        Ok(graph) => Ok(graph),
+        Err(_) => Err(Fail::new("refused")),
+    }
+}
+
+// Number, place and depth of a refusal.
+fn told(why: Refusal) -> (u8, usize, u8) {
+    (why.reason.number(), why.place, why.depth)
+}
+
+// Event and target of an exit.
+fn read(graph: &ImageGraph, s: u16, k: u16) -> Result<Option<(u8, u16)>, Fail> {
+    match graph.exit(s, k) {
+        Ok(Some(exit)) => Ok(Some((exit.event, exit.target))),
+        Ok(None) => Ok(None),
+        Err(_) => Err(Fail::new("refused")),
+    }
+}
+
+fn refusal_at(graph: &ImageGraph, s: u16, exits: &mut Exits) -> Option<(u8, usize, u8)> {
+    match graph.exits(s, exits) {
+        Ok(()) => None,
+        Err(why) => Some(told(why)),
+    }
+}
+
+fn line_at(graph: &ImageGraph, s: u16) -> Result<u32, (u8, usize, u8)> {
+    match graph.line(s) {
+        Ok(line) => Ok(line),
+        Err(why) => Err(told(why)),
+    }
+}
+
+#[test]
+fn names_and_events(rt: LibcRuntime) -> Result<(), Fail> {
+    let list = two_events(rt.alloc())?;
+    check_eq(list.len(), 2)?;
+    check_eq(list.find(b"a"), Some(0))?;
+    check_eq(list.find(b"b"), Some(1))?;
+    check_eq(list.find(b"ab"), None)?;
+    check_eq(list.find(b""), None)?;
+    check(list.name(1).is_some())?;
+    check(list.name(2).is_none())?;
+    check(list.name(255).is_none())
+}
+
+#[test]
+fn exits_one_by_one(rt: LibcRuntime) -> Result<(), Fail> {
+    let graph = three_states(rt.alloc())?;
+    check_eq(graph.states(), 3)?;
+    check_eq(read(&graph, 0, 0)?, Some((0, 1)))?;
+    check_eq(read(&graph, 0, 1)?, Some((1, 2)))?;
+    check_eq(read(&graph, 0, 2)?, None)?;
+    check_eq(read(&graph, 0, 65535)?, None)?;
+    check_eq(read(&graph, 2, 0)?, None)
+}
+
+#[test]
+fn exits_at_once(rt: LibcRuntime) -> Result<(), Fail> {
+    let graph = three_states(rt.alloc())?;
+    let mut exits = Exits::new();
+    check_eq(refusal_at(&graph, 0, &mut exits), None)?;
+    check_eq(exits.len(), 2)?;
+    check_eq(exits.get(1).is_some(), true)?;
+    check_eq(refusal_at(&graph, 1, &mut exits), Some((31, 1, 0)))?;
+    check_eq(exits.len(), 0)?;
+    check_eq(refusal_at(&graph, 0, &mut exits), None)?;
+    check_eq(refusal_at(&graph, 3, &mut exits), Some((30, 3, 0)))?;
+    check_eq(exits.len(), 0)?;
+    check_eq(refusal_at(&graph, 2, &mut exits), None)?;
+    check_eq(exits.as_slice().len(), 0)
+}
+
+#[test]
+fn lines_of_states(rt: LibcRuntime) -> Result<(), Fail> {
+    let graph = three_states(rt.alloc())?;
+    check_eq(line_at(&graph, 0), Ok(10))?;
+    check_eq(line_at(&graph, 1), Ok(0))?;
+    check_eq(line_at(&graph, 2), Ok(30))?;
+    check_eq(line_at(&graph, 3), Err((30, 3, 0)))?;
+    check_eq(line_at(&graph, 65535), Err((30, 65535, 0)))
+}
+
+#[test]
+fn at_most_1024_exits() -> Result<(), Fail> {
+    let mut exits = Exits::new();
+    for target in 0..1025u16 {
+        exits.push(Exit { event: 7, target });
+    }
+    check_eq(exits.len(), 1024)?;
+    check(exits.get(1023).is_some())?;
+    check(exits.get(1024).is_none())?;
+    exits.clear();
+    check_eq(exits.len(), 0)
+}
+
+#[test]
+fn numbers_of_reasons() -> Result<(), Fail> {
+    check_eq(Reason::ImageShort.number(), 1)?;
+    check_eq(Reason::NameRepeated.number(), 8)?;
+    check_eq(Reason::TextLong.number(), 10)?;
+    check_eq(Reason::StepsMany.number(), 17)?;
+    check_eq(Reason::StartOutside.number(), 20)?;
+    check_eq(Reason::StateOutside.number(), 30)?;
+    check_eq(Reason::Closed(Cause::empty_part()).number(), 31)?;
+    check(Cause::new(30).is_none())?;
+    check(Cause::new(31).is_some())?;
+    check(Cause::new(39).is_some())?;
+    check(Cause::new(40).is_none())
+}
