@@ -5,8 +5,6 @@
 //! graph follows, with the names of the last list that was accepted. Under `sweep-events` and `sweep-graph` each byte
 //! of the image takes each value in turn.
 mod sweeps;
-#[cfg(test)]
-mod tests;
 
 use crate::sweeps::sweep;
 use events::list::EventList;

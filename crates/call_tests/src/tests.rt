@@ -3,11 +3,14 @@ use events::list::EventList;
 use graph::Graph;
 use graph::exit::Exit;
 use graph::exits::Exits;
+use image::Kind;
 use image_graph::held::ImageGraph;
 use image_graph::reads::ImageGraphReads;
 use refusal::Reason;
 use refusal::Refusal;
 use refusal::cause::Cause;
+use report::refused::refused_text;
+use report::states::state_text;
 use std::alloc::Global;
 use std::test::*;
 
@@ -203,4 +206,36 @@ fn numbers_of_reasons() -> Result<(), Fail> {
     check(Cause::new(31).is_some())?;
     check(Cause::new(39).is_some())?;
     check(Cause::new(40).is_none())
+}
+
+#[test]
+fn texts_of_refusals(rt: LibcRuntime) -> Result<(), Fail> {
+    let outside = refused_text(
+        rt.alloc(),
+        Kind::Graph,
+        Refusal::at(Reason::PartIllFormed, 16826368),
+    )?;
+    check_eq(outside.as_str(), "refused graph 7 16826368\n")?;
+    let repeated = refused_text(
+        rt.alloc(),
+        Kind::Events,
+        Refusal::at(Reason::NameRepeated, 12),
+    )?;
+    check_eq(repeated.as_str(), "refused events 8 12\n")
+}
+
+#[test]
+fn texts_of_states(rt: LibcRuntime) -> Result<(), Fail> {
+    let list = two_events(rt.alloc())?;
+    let graph = three_states(rt.alloc())?;
+    let mut exits = Exits::new();
+    let open = state_text(rt.alloc(), &list, &graph, 0, &mut exits)?;
+    check_eq(
+        open.as_str(),
+        "state 0 line 10 exits 2\nexit 0 a 1\nexit 1 b 2\n",
+    )?;
+    let closed = state_text(rt.alloc(), &list, &graph, 1, &mut exits)?;
+    check_eq(closed.as_str(), "state 1 closed 31 0\n")?;
+    let missing = state_text(rt.alloc(), &list, &graph, 3, &mut exits)?;
+    check_eq(missing.as_str(), "")
 }

@@ -1,0 +1,3 @@
+//! Tests of the calls on event lists, graphs and refusals.
+#[cfg(test)]
+mod tests;
