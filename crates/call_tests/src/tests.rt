@@ -1,16 +1,16 @@
 //! Calls on a small list and a small graph, with answers from the rules.
-use events::list::EventList;
+use events::EventList;
+use graph::Exit;
+use graph::Exits;
 use graph::Graph;
-use graph::exit::Exit;
-use graph::exits::Exits;
 use image::Kind;
-use image_graph::held::ImageGraph;
-use image_graph::reads::ImageGraphReads;
+use image_graph::ImageGraph;
+use image_graph::ImageGraphReads;
+use refusal::Cause;
 use refusal::Reason;
 use refusal::Refusal;
-use refusal::cause::Cause;
-use report::refused::refused_text;
-use report::states::state_text;
+use report::refused_text;
+use report::state_text;
 use std::alloc::Global;
 use std::test::*;
 
@@ -107,6 +107,22 @@ fn told(why: Refusal) -> (u8, usize, u8) {
     (why.reason.number(), why.place, why.depth)
 }
 
+// The first letter of an event's name.
+fn named(list: &EventList, event: u8) -> Option<u8> {
+    match list.name(event) {
+        Some(name) => name.as_bytes().first().copied(),
+        None => None,
+    }
+}
+
+// Event and target of exit k in a buffer.
+fn held(exits: &Exits, k: usize) -> Option<(u8, u16)> {
+    match exits.get(k) {
+        Some(exit) => Some((exit.event, exit.target)),
+        None => None,
+    }
+}
+
 // Event and target of an exit.
 fn read(graph: &ImageGraph, s: u16, k: u16) -> Result<Option<(u8, u16)>, Fail> {
     match graph.exit(s, k) {
@@ -138,9 +154,10 @@ fn names_and_events(rt: LibcRuntime) -> Result<(), Fail> {
     check_eq(list.find(b"b"), Some(1))?;
     check_eq(list.find(b"ab"), None)?;
     check_eq(list.find(b""), None)?;
-    check(list.name(1).is_some())?;
-    check(list.name(2).is_none())?;
-    check(list.name(255).is_none())
+    check_eq(named(&list, 0), Some(b'a'))?;
+    check_eq(named(&list, 1), Some(b'b'))?;
+    check_eq(named(&list, 2), None)?;
+    check_eq(named(&list, 255), None)
 }
 
 #[test]
@@ -160,7 +177,9 @@ fn exits_at_once(rt: LibcRuntime) -> Result<(), Fail> {
     let mut exits = Exits::new();
     check_eq(refusal_at(&graph, 0, &mut exits), None)?;
     check_eq(exits.len(), 2)?;
-    check_eq(exits.get(1).is_some(), true)?;
+    check_eq(held(&exits, 0), Some((0, 1)))?;
+    check_eq(held(&exits, 1), Some((1, 2)))?;
+    check_eq(held(&exits, 2), None)?;
     check_eq(refusal_at(&graph, 1, &mut exits), Some((31, 1, 0)))?;
     check_eq(exits.len(), 0)?;
     check_eq(refusal_at(&graph, 0, &mut exits), None)?;
@@ -187,8 +206,8 @@ fn at_most_1024_exits() -> Result<(), Fail> {
         exits.push(Exit { event: 7, target });
     }
     check_eq(exits.len(), 1024)?;
-    check(exits.get(1023).is_some())?;
-    check(exits.get(1024).is_none())?;
+    check_eq(held(&exits, 1023), Some((7, 1023)))?;
+    check_eq(held(&exits, 1024), None)?;
     exits.clear();
     check_eq(exits.len(), 0)
 }

@@ -1,10 +1,14 @@
 -- An event list as it is made, name by name. Assumes nothing.
 use mathlib.Core.Path.{_≡_, refl, sym, ap, subst, _∙_}
+use mathlib.Core.Bool.{true, false}
 use mathlib.Core.List.{List, []}
 use mathlib.Core.Logic.{inl, ⊎-elim}
 use Prim.Native.Nat.{ℕ, _+_, _<_, _≤_}
 use native.Mathlib.Omega.{arith}
 use lib.ListN.{length, getD, set, length-set}
+use Rattle.std.specs.Options.{isSome}
+use Rattle.std.specs.declared.option.Option.{Option}
+use Rattle.std.specs.declared.option.Option.the-variants.{Some, None}
 use Rattle.std.proofs.shelf.Lists.{getD-set-same, getD-set-other}
 use Rattle.std.proofs.shelf.Tests.{cases-lt}
 use Rattle.refusal.specs.Reasons.{refused-at}
@@ -12,13 +16,25 @@ use Rattle.refusal.specs.Rules.{no-more, rule, FirstBroken}
 use Rattle.refusal.specs.declared.Reason.the-variants.{NameRepeated}
 use Rattle.name.specs.Names.{Bytes}
 use Rattle.name.specs.Held.{name-bytes}
-use Rattle.name.specs.declared.name.Name.{Name}
+use Rattle.name.specs.declared.held.Name.{Name}
 use Rattle.image.specs.Bytes.{count-of, pair-at, part-of}
 use Rattle.image.specs.Images.{AtPair}
-use Rattle.events.specs.Lists.{Distinct, first-names}
+use Rattle.events.specs.Lists.{Distinct, EventOf, first-names}
 use Rattle.events.specs.Images.{Repeated}
-use Rattle.events.specs.Inner.{Among}
 use Rattle.events.proofs.Names.{names-length, name-at}
+
+-- one of the first n names is w
+abbrev pub Among : ℕ → List Name → Bytes → Type 0
+Among n entries w = (j : ℕ) × (j < n) × (getD (first-names n entries) j [] ≡ w)
+
+-- a name that was found among the first n, or was not
+pub found-among : (n : ℕ) (entries : List Name) (w : Bytes) (r : Option ℕ) → n ≤ length entries → EventOf (first-names n entries) w r → isSome r ≡ true → Among n entries w
+found-among n entries w (Some k) h f e = let l = names-length entries n h in (k, omega (arith, f .0), f .1)
+found-among n entries w None h f e = let z : _≡_ {A = ℕ} 0 1 = cc in absurd (omega arith)
+
+pub not-among : (n : ℕ) (entries : List Name) (w : Bytes) (r : Option ℕ) → n ≤ length entries → EventOf (first-names n entries) w r → isSome r ≡ false → Among n entries w → ⊥
+not-among n entries w None h f e a = let l = names-length entries n h in f (a .0) (omega (arith, a .1)) (a .2)
+not-among n entries w (Some k) h f e a = let z : _≡_ {A = ℕ} 0 1 = cc in omega arith
 
 -- the first n parts are held, and differ
 pub record Sofar (bs : Bytes) (entries : List Name) (n : ℕ) : Type 0 where

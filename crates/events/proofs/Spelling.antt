@@ -22,7 +22,7 @@ use Rattle.image.proofs.Keeping.{valid-kept}
 use Rattle.events.specs.Held.{names-in}
 use Rattle.events.specs.Images.{EventImage, Repeated, event-rules, AcceptedList, RefusedList}
 use Rattle.events.specs.Inner.{Gathered}
-use Rattle.events.specs.declared.list.EventList.{EventList}
+use Rattle.events.specs.declared.held.EventList.{EventList}
 use Rattle.events.proofs.Names.{held-length}
 
 -- an image has one list of names

@@ -15,7 +15,7 @@ use Rattle.image.specs.declared.Kind.the-variants.{Events}
 use Rattle.image.specs.declared.Rejected.{Rejected}
 use Rattle.events.specs.Lists.{Distinct}
 use Rattle.events.specs.Held.{names-in}
-use Rattle.events.specs.declared.list.EventList.{EventList}
+use Rattle.events.specs.declared.held.EventList.{EventList}
 
 -- the bytes are an image of these names: part i is name i, and none stands twice
 pub record EventImage (bs : Bytes) (names : List Bytes) : Type 0 where

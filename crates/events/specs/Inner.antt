@@ -1,6 +1,6 @@
 -- The contracts of inner functions: nothing here is part of a public contract. Assumes nothing.
 use mathlib.Core.Path.{_≡_}
-use mathlib.Core.List.{List, []}
+use mathlib.Core.List.{[]}
 use Prim.Native.Nat.{ℕ, _<_}
 use lib.ListN.{getD}
 use Rattle.std.specs.declared.result.Result.{Result}
@@ -9,17 +9,11 @@ use Rattle.refusal.specs.Rules.{no-more, rule, FirstBroken}
 use Rattle.refusal.specs.declared.Reason.the-variants.{NameRepeated}
 use Rattle.refusal.specs.declared.Refusal.{Refusal}
 use Rattle.name.specs.Names.{Bytes}
-use Rattle.name.specs.declared.name.Name.{Name}
 use Rattle.image.specs.Bytes.{count-of, part-of}
 use Rattle.image.specs.Images.{AtPair}
-use Rattle.events.specs.Lists.{first-names}
 use Rattle.events.specs.Held.{names-in}
 use Rattle.events.specs.Images.{Repeated}
-use Rattle.events.specs.declared.list.EventList.{EventList}
-
--- one of the first n names is w
-abbrev pub Among : ℕ → List Name → Bytes → Type 0
-Among n entries w = (j : ℕ) × (j < n) × (getD (first-names n entries) j [] ≡ w)
+use Rattle.events.specs.declared.held.EventList.{EventList}
 
 -- the list has the parts for its names, or a name is repeated
 abbrev pub Gathered : Bytes → Result EventList Refusal → Type 0

@@ -7,7 +7,7 @@ use Rattle.std.specs.declared.option.Option.{Option}
 use Rattle.std.specs.declared.option.Option.the-variants.{Some, None}
 use Rattle.name.specs.Names.{Bytes}
 use Rattle.name.specs.Held.{name-bytes}
-use Rattle.name.specs.declared.name.Name.{Name}
+use Rattle.name.specs.declared.held.Name.{Name}
 
 -- no name is listed twice
 abbrev pub Distinct : List Bytes → Type 0

@@ -1,4 +1,6 @@
 //! Event lists: which number each event's name stands for.
-pub mod list;
+mod held;
 mod loads;
 mod reads;
+
+pub use crate::held::EventList;

@@ -1,21 +1,20 @@
 //! Loading an event list from an image.
 ghost use mathlib.Core.Path.{_≡_};
-ghost use Prim.Native.Nat.{_≤_, _<_};
-ghost use lib.ListN.{length};
+ghost use Prim.Native.Nat.{_<_};
 ghost use Rattle.std.specs.Of.Vec.{vec-items};
-ghost use Rattle.std.specs.Orderings.{Decides};
 ghost use Rattle.name.specs.Held.{name-bytes};
 ghost use Rattle.image.specs.Bytes.{count-of, part-of};
 ghost use Rattle.image.specs.Opened.{image-bytes};
 ghost use Rattle.image.specs.declared.Kind.the-variants.{Events};
 ghost use Rattle.events.specs.Images.{Loaded};
-ghost use Rattle.events.specs.Inner.{Among, Gathered};
-use crate::list::EventList;
+ghost use Rattle.events.specs.Inner.{Gathered};
+use crate::EventList;
+use crate::reads::position;
+use image::Image;
 use image::Kind;
 use image::Rejected;
-use image::held::Image;
 use image::pair_place;
-use name::name::Name;
+use name::Name;
 use refusal::Reason;
 use refusal::Refusal;
 
@@ -50,28 +49,16 @@ fn name_of(image: &Image, i: u16) -> Name
     name
 }
 
-// Whether a name is one of the first n.
-fn among(entries: &[Name], n: usize, name: &Name) -> bool
-    requires { ⌜ n ≤ length (now entries) ⌝ }
-    ensures { λ r. ⌜ Decides r (Among n (now (entries .entry)) (name-bytes (now (name .entry)))) ⌝ }
-{
-    for j in 0..n {
-        if entries[j].as_bytes() == name.as_bytes() {
-            return true;
-        }
-    }
-    false
-}
-
 // The names of an image, unless one is repeated.
 fn gather(image: &Image) -> Result<EventList, Refusal>
     requires { ⌜ now image .kind ≡ Events ⌝ }
     ensures { λ r. ⌜ Gathered (image-bytes (now (image .entry))) r ⌝ }
 {
+    // Each place holds some name, so the first stands where no other does.
     let mut entries = [name_of(image, 0); 64];
     for i in 0..image.count() {
         let name = name_of(image, i);
-        if among(&entries, usize::from(i), &name) {
+        if position(&entries[0..usize::from(i)], name.as_bytes()).is_some() {
             return Err(Refusal::at(Reason::NameRepeated, pair_place(i)));
         }
         entries[usize::from(i)] = name;

@@ -1,13 +1,14 @@
 //! Looking up names and events.
 ghost use mathlib.Core.Path.{_≡_};
+ghost use mathlib.Core.List.{map};
 ghost use lib.ListN.{length};
 ghost use Rattle.std.specs.Finite.{nth};
 ghost use Rattle.std.specs.Options.{mapped};
 ghost use Rattle.name.specs.Held.{name-bytes};
 ghost use Rattle.events.specs.Lists.{EventOf};
 ghost use Rattle.events.specs.Held.{names-in};
-use crate::list::EventList;
-use name::name::Name;
+use crate::EventList;
+use name::Name;
 
 impl EventList {
     /// How many events there are.
@@ -32,11 +33,21 @@ impl EventList {
     pub fn find(&self, word: &[u8]) -> Option<u8>
         ensures { λ r. ⌜ EventOf (names-in (now (self .entry))) (now (word .entry)) r ⌝ }
     {
-        for i in 0..self.count {
-            if self.entries[i].as_bytes() == word {
-                return Some(i as u8);
-            }
+        match position(&self.entries[0..self.count], word) {
+            Some(i) => Some(i as u8),
+            None => None,
         }
-        None
     }
+}
+
+// The place of a name in a list of names.
+pub(crate) fn position(names: &[Name], word: &[u8]) -> Option<usize>
+    ensures { λ r. ⌜ EventOf (map name-bytes (now (names .entry))) (now (word .entry)) r ⌝ }
+{
+    for (i, name) in names.iter().enumerate() {
+        if name.as_bytes() == word {
+            return Some(i);
+        }
+    }
+    None
 }

@@ -11,7 +11,7 @@ use Rattle.refusal.specs.Reasons.{refused-at, closed-at}
 use Rattle.refusal.specs.declared.Reason.the-variants.{StateOutside}
 use Rattle.refusal.specs.declared.Refusal.{Refusal}
 use Rattle.graph.specs.Meanings.{Meaning, State, opened, closed, outgoing}
-use Rattle.graph.specs.declared.exit.Exit.{Exit}
+use Rattle.graph.specs.declared.Exit.{Exit}
 
 -- a state that is not below the number of states is refused by 30; else the answer is the state's
 abbrev pub of-state : {X : Type 0} → Meaning → ℕ → Result X Refusal → Result X Refusal

@@ -4,8 +4,8 @@ use mathlib.Core.List.{List, []}
 use Prim.Native.Nat.{ℕ, _≤_, _<_, _^_}
 use lib.ListN.{length}
 use Rattle.std.specs.shelf.Lists.{All}
-use Rattle.refusal.specs.declared.cause.Cause.{Cause}
-use Rattle.graph.specs.declared.exit.Exit.{Exit}
+use Rattle.refusal.specs.declared.held.Cause.{Cause}
+use Rattle.graph.specs.declared.Exit.{Exit}
 
 -- A state is open, with its exits in order, or closed, with a cause and a depth: the number of layers above the graph that closed it.
 pub data State : Type 0 where

@@ -4,11 +4,11 @@ ghost use mathlib.Core.List.{[], _∷_, _++_};
 ghost use lib.ListN.{length, take};
 ghost use Rattle.std.specs.Finite.{nth};
 ghost use Rattle.graph.specs.Buffers.{exits-in};
-use crate::exit::Exit;
-use crate::exits::Exits;
+use crate::Exit;
+use crate::Exits;
 
 /// The most exits that a state has.
-pub const MOST: usize = 1024;
+const MOST: usize = 1024;
 
 impl Exits {
     /// No exits.

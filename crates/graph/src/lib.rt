@@ -5,13 +5,18 @@ ghost use Rattle.graph.specs.Meanings.{Meaning, Bounds, LineBounds};
 ghost use Rattle.graph.specs.Answers.{state-answer, exits-of, exit-answer, line-answer};
 ghost use Rattle.graph.specs.Buffers.{exits-in};
 
-pub mod buffer;
-pub mod exit;
-pub mod exits;
+mod buffer;
+mod held;
 
-use crate::exit::Exit;
-use crate::exits::Exits;
+pub use crate::held::Exits;
 use refusal::Refusal;
+
+/// An event and the state that it leads to. In a graph the event is 0 to 63, and the state is there.
+#[derive(Clone, Copy)]
+pub struct Exit {
+    pub event: u8,
+    pub target: u16,
+}
 
 /// What a graph answers is settled by its meaning, which keeps the bounds. Asking changes nothing.
 pub trait Graph {

@@ -19,7 +19,7 @@ pub record Placed (bs : Bytes) (i : ℕ) : Type 0 where
 abbrev pub PartFormed : Kind → Bytes → ℕ → Type 0
 PartFormed kind bs i = (k : ℕ) → ItemAt kind (part-of bs i) k → WellFormed kind (count-of bs) (part-of bs i) k
 
--- bytes that are an image of this kind
+-- bytes whose header, pairs and parts keep the rules of this kind
 pub record Valid (kind : Kind) (bs : Bytes) : Type 0 where
   pub long : 4 ≤ length bs
   pub known : kind-of bs ≡ kind-number kind

@@ -54,13 +54,13 @@ pub(crate) fn part_of(bytes: &[u8], i: u16) -> &[u8]
 fn check_header(bytes: &[u8], kind: Kind) -> Result<u16, Refusal>
     ensures { λ r. ⌜ Judged (Headed kind (now (bytes .entry))) (header-rules kind (now (bytes .entry))) r ⌝ }
 {
-    let [k0, k1, n0, n1, rest @ ..] = bytes else {
+    let [kind_low, kind_high, count_low, count_high, rest @ ..] = bytes else {
         return Err(Refusal::at(Reason::ImageShort, 0));
     };
-    if u16::from_le_bytes([*k0, *k1]) != kind.number() {
+    if u16::from_le_bytes([*kind_low, *kind_high]) != kind.number() {
         return Err(Refusal::at(Reason::KindOther, 0));
     }
-    let count = u16::from_le_bytes([*n0, *n1]);
+    let count = u16::from_le_bytes([*count_low, *count_high]);
     if !kind.allows_count(count) {
         return Err(Refusal::at(Reason::CountOutside, 2));
     }
@@ -93,10 +93,10 @@ fn check_lengths(bytes: &[u8], kind: Kind, count: u16) -> Result<(), Refusal>
     requires paired { ⌜ pair-at count ≤ length (now bytes) ⌝ }
     ensures { λ r. ⌜ Judged (λ _. (i : ℕ) → i < count → LengthAllowed kind (size-of (now (bytes .entry)) i)) (length-rule kind (now (bytes .entry))) r ⌝ }
 {
-    for i in 0..count {
-        let span = read_span(bytes, i);
+    for pair in 0..count {
+        let span = read_span(bytes, pair);
         if !kind.allows_length(span.size) {
-            return Err(Refusal::at(Reason::LengthWrong, pair_place(i)));
+            return Err(Refusal::at(Reason::LengthWrong, pair_place(pair)));
         }
     }
     Ok(())
@@ -109,9 +109,9 @@ fn check_parts(bytes: &[u8], kind: Kind, count: u16) -> Result<(), Refusal>
     requires placed { ⌜ ((i : ℕ) → i < count → Placed (now bytes) i) ⌝ }
     ensures { λ r. ⌜ Judged (λ _. (i : ℕ) → i < count → PartFormed kind (now (bytes .entry)) i) (part-rule kind (now (bytes .entry))) r ⌝ }
 {
-    for i in 0..count {
-        if let Some(k) = kind.first_ill_formed(part_of(bytes, i), count) {
-            return Err(Refusal::at(Reason::PartIllFormed, read_span(bytes, i).offset + k));
+    for part in 0..count {
+        if let Some(k) = kind.first_ill_formed(part_of(bytes, part), count) {
+            return Err(Refusal::at(Reason::PartIllFormed, read_span(bytes, part).offset + k));
         }
     }
     Ok(())

@@ -6,7 +6,7 @@ ghost use Rattle.image.specs.Bytes.{byte-at, count-of};
 ghost use Rattle.image.specs.Images.{Valid};
 use crate::Kind;
 
-/// A valid image of its kind. It owns its bytes.
+/// An image that keeps the rules of its kind up to those of its parts. It owns its bytes.
 #[derive(Drop)]
 pub struct Image {
     pub(crate) bytes: Vec<u8>,

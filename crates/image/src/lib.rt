@@ -3,14 +3,15 @@ ghost use mathlib.Core.Path.{_≡_};
 ghost use Rattle.image.specs.Bytes.{pair-at};
 
 mod checks;
-pub mod held;
+mod held;
 mod kinds;
 mod open;
 
+pub use crate::held::Image;
 use refusal::Refusal;
 
 /// What an image holds.
-#[derive(Clone, Copy, PartialEq, Eq, Debug)]
+#[derive(Clone, Copy)]
 pub enum Kind {
     /// The names of events.
     Events,

@@ -22,19 +22,19 @@ module _ (g : ImageGraph) where
   exits-bounded s h some =
       let part = part-of (graph-bytes g) s in
       let n = count-of (graph-bytes g) in
-      let size = held-state (g .image) (g .states) s h some in
+      let size = held-state (g .image) (g .isgraph) s h some in
       let long = exits-length part in
       let few : length (exits-from part) ≤ 1024 = omega (arith, size .0, size .1) in (
         few,
         all-from-getD (ExitBounds n) (exits-from part) no-exit
             (λ j l. let m : j < (length part - 4) / 4 = omega arith in
-            let x = held-exit (g .image) (g .states) s h (4 + 4 * j) (omega arith, omega (arith, size .0), omega arith) in
+            let x = held-exit (g .image) (g .isgraph) s h (4 + 4 * j) (omega arith, omega (arith, size .0), omega arith) in
             subst (ExitBounds n) (sym (exit-there part j no-exit m)) (record { event = x .0; target = x .2 })),
       )
 
   pub bounded : Bounds (meaning-of (graph-bytes g))
   bounded = record {
-    size = held-count (g .image) (g .states);
+    size = held-count (g .image) (g .isgraph);
     states = λ s h.
         let part = part-of (graph-bytes g) s in
         cond-both (eqb (length part) 0) (closed empty-part 0) (opened (exits-from part)) (StateBounds (count-of (graph-bytes g)))

@@ -33,4 +33,4 @@ open-part g s part found e =
     let bs = graph-bytes g in
     let p = part-there (count-of bs) s part (part-of bs s) found in
     let some = subst (λ x. 0 < length x) (p .1) (not-empty part s e) in
-    subst (λ x. (4 ≤ length x) × (length x ≤ 4100)) (sym (p .1)) (held-state (g .image) (g .states) s (ltb-true s (count-of bs) (p .0)) some)
+    subst (λ x. (4 ≤ length x) × (length x ≤ 4100)) (sym (p .1)) (held-state (g .image) (g .isgraph) s (ltb-true s (count-of bs) (p .0)) some)

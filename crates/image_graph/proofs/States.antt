@@ -13,7 +13,7 @@ use Rattle.std.proofs.shelf.Maps.{nth-getD}
 use Rattle.std.proofs.shelf.Tests.{cond-true, cond-false, eq-eqb, ne-eqb}
 use Rattle.refusal.specs.Reasons.{empty-part}
 use Rattle.graph.specs.Meanings.{Meaning, State, opened, closed}
-use Rattle.graph.specs.declared.exit.Exit.{Exit}
+use Rattle.graph.specs.declared.Exit.{Exit}
 use Rattle.name.specs.Names.{Bytes}
 use Rattle.image.specs.Bytes.{number32, count-of, part-of}
 use Rattle.image.specs.Kinds.{LengthAllowed}
@@ -80,6 +80,7 @@ module _ (bs : Bytes) (v : Valid Graph bs) where
 
 pub accepted : (bs : Bytes) → Valid Graph bs → (g : ImageGraph) → graph-bytes g ≡ bs → AcceptedGraph bs g
 accepted bs v g same = record {
+  held = same;
   spelled = subst (λ x. GraphImage bs (meaning-of x) (lines-of x)) (sym same) (spells-graph bs v);
   only = λ H others i. subst (λ x. Alike (meaning-of x) (lines-of x) H others) (sym same) (one-graph bs v H others i);
   kept = valid-kept Graph bs v;

@@ -11,6 +11,7 @@ use Rattle.image_graph.specs.declared.held.ImageGraph.{ImageGraph}
 abbrev pub meaning-of : Bytes → Meaning
 meaning-of bs = record { size = count-of bs; state = λ i. state-of (part-of bs i) }
 
+-- the line of state i is what part i spells
 abbrev pub lines-of : Bytes → ℕ → ℕ
 lines-of bs i = source-line (part-of bs i)
 

@@ -26,8 +26,9 @@ pub record Alike (G : Meaning) (lines : ℕ → ℕ) (H : Meaning) (others : ℕ
   pub states : Same G H
   pub lines-too : (i : ℕ) → i < G .size → others i ≡ lines i
 
--- the graph has the meaning and the lines that the bytes spell, and they spell no others; no rule is broken
+-- the graph holds the bytes; its meaning and its lines are those that they spell, and they spell no others; no rule is broken
 pub record AcceptedGraph (bs : Bytes) (g : ImageGraph) : Type 0 where
+  pub held : graph-bytes g ≡ bs
   pub spelled : GraphImage bs (meaning-of (graph-bytes g)) (lines-of (graph-bytes g))
   pub only : (H : Meaning) (others : ℕ → ℕ) → GraphImage bs H others → Alike (meaning-of (graph-bytes g)) (lines-of (graph-bytes g)) H others
   pub kept : Kept (image-rules Graph bs)

@@ -10,7 +10,7 @@ use Rattle.std.specs.Iters.{counting}
 use Rattle.std.specs.declared.option.Option.the-variants.{Some}
 use Rattle.refusal.specs.Reasons.{empty-part}
 use Rattle.graph.specs.Meanings.{State, opened, closed}
-use Rattle.graph.specs.declared.exit.Exit.{Exit}
+use Rattle.graph.specs.declared.Exit.{Exit}
 use Rattle.name.specs.Names.{Bytes}
 use Rattle.image.specs.Bytes.{byte-at, number16, number32}
 

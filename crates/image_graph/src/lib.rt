@@ -1,5 +1,8 @@
 //! The image graph: part i of its image is state i, empty where the state is closed.
-pub mod held;
+mod held;
 mod loads;
 mod parts;
-pub mod reads;
+mod reads;
+
+pub use crate::held::ImageGraph;
+pub use crate::reads::ImageGraphReads;

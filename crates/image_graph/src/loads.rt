@@ -2,9 +2,9 @@
 ghost use Rattle.std.specs.Of.Vec.{vec-items};
 ghost use Rattle.image_graph.specs.Images.{Loaded};
 use crate::held::ImageGraph;
+use image::Image;
 use image::Kind;
 use image::Rejected;
-use image::held::Image;
 
 impl ImageGraph {
     /// The graph that the bytes are an image of, or the bytes back with the first rule that they break.

@@ -1,13 +1,13 @@
 //! What stands in the part of a state.
 ghost use mathlib.Core.Path.{_≡_};
 ghost use mathlib.Core.List.{[]};
-ghost use Prim.Native.Nat.{ℕ, _+_, _<_, _≤_};
+ghost use Prim.Native.Nat.{_+_, _<_, _≤_};
 ghost use lib.ListN.{length};
 ghost use Rattle.std.specs.Finite.{nth};
 ghost use Rattle.graph.specs.Buffers.{exits-in};
 ghost use Rattle.image_graph.specs.Parts.{exit-at, exits-from, source-line};
-use graph::exit::Exit;
-use graph::exits::Exits;
+use graph::Exit;
+use graph::Exits;
 
 // The exit at a place.
 fn read_exit(part: &[u8], k: usize) -> Exit

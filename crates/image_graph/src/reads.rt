@@ -7,12 +7,12 @@ use crate::held::ImageGraph;
 use crate::parts::nth_exit;
 use crate::parts::push_exits;
 use crate::parts::read_line;
+use graph::Exit;
+use graph::Exits;
 use graph::Graph;
-use graph::exit::Exit;
-use graph::exits::Exits;
+use refusal::Cause;
 use refusal::Reason;
 use refusal::Refusal;
-use refusal::cause::Cause;
 
 // Refuses state s where its part is empty: it is closed.
 fn check_open(part: &[u8], s: u16) -> Result<(), Refusal>

@@ -1,15 +1,15 @@
 //! `inspect EVENTS GRAPH` prints the events and the states of a controller build, from its two images.
-use events::list::EventList;
+use events::EventList;
+use graph::Exits;
 use graph::Graph;
-use graph::exits::Exits;
 use image::Kind;
-use image_graph::held::ImageGraph;
-use image_graph::reads::ImageGraphReads;
+use image_graph::ImageGraph;
+use image_graph::ImageGraphReads;
 use refusal::Refusal;
-use report::names::events_text;
-use report::refused::refused_text;
-use report::states::state_text;
-use report::states::states_text;
+use report::events_text;
+use report::refused_text;
+use report::state_text;
+use report::states_text;
 use std::env;
 use std::error::AnyError;
 use std::fs;
@@ -47,7 +47,7 @@ fn print_refusal(rt: &LibcRuntime, kind: Kind, why: Refusal) -> Result<(), AnyEr
 
 // The number of states, and the text of each.
 fn print_states(rt: &LibcRuntime, events: &EventList, graph: &ImageGraph) -> Result<(), AnyError> {
-    rt.print(states_text(rt.alloc(), graph.states())?)?;
+    rt.print(states_text(rt.alloc(), graph)?)?;
     let mut exits = Exits::new();
     for s in 0..graph.states() {
         rt.print(state_text(rt.alloc(), events, graph, s, &mut exits)?)?;

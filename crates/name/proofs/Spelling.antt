@@ -11,7 +11,7 @@ use Rattle.std.proofs.shelf.Text.{utf8-from-ascii}
 use Rattle.std.proofs.shelf.Ways.{tells}
 use Rattle.name.specs.Names.{Bytes, in-name, name-length, Formed}
 use Rattle.name.specs.Held.{name-bytes}
-use Rattle.name.specs.declared.name.Name.{Name}
+use Rattle.name.specs.declared.held.Name.{Name}
 
 -- a byte of a name is below 128
 low : (k b : ℕ) → in-name k b ≡ true → b < 128

@@ -1,10 +1,12 @@
 -- How a name is formed. Assumes nothing.
 use mathlib.Core.Path.{_≡_}
-use mathlib.Core.Bool.{Bool, true, cond, _&&_, _||_}
+use mathlib.Core.Bool.{Bool, true, false, cond, _&&_, _||_}
 use mathlib.Core.List.{List}
 use Prim.Native.Nat.{ℕ, _<_, _≤_}
 use lib.Dec.{leb, eqb}
 use lib.ListN.{length, getD}
+use Rattle.std.specs.declared.option.Option.{Option}
+use Rattle.std.specs.declared.option.Option.the-variants.{Some, None}
 
 -- the bytes of a text, by their numbers
 abbrev pub Bytes : Type 0
@@ -34,3 +36,8 @@ name-length n = (1 ≤ n) × (n ≤ 16)
 pub record Formed (w : Bytes) : Type 0 where
   pub sized : name-length (length w)
   pub spelled : (k : ℕ) → k < length w → in-name k (getD w k 0) ≡ true
+
+-- the first byte that may not stand where it does, or none
+abbrev pub FirstWrong : Bytes → Option ℕ → Type 0
+FirstWrong w (Some k) = (k < length w) × (in-name k (getD w k 0) ≡ false) × ((j : ℕ) → j < k → in-name j (getD w j 0) ≡ true)
+FirstWrong w None = (k : ℕ) → k < length w → in-name k (getD w k 0) ≡ true

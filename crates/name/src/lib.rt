@@ -1,28 +1,17 @@
 //! Names of events: how one is formed, and a type that holds nothing else.
 ghost use mathlib.Core.Path.{_≡_};
-ghost use Prim.Native.Nat.{ℕ, _≤_, _<_};
+ghost use Prim.Native.Nat.{_≤_};
 ghost use lib.ListN.{length, take};
-ghost use Rattle.name.specs.Names.{in-name, name-length};
-ghost use Rattle.name.specs.Held.{name-bytes, NameOf, FirstWrong};
+ghost use Rattle.name.specs.Names.{in-name, FirstWrong};
+ghost use Rattle.name.specs.Held.{name-bytes, NameOf};
 
-pub mod name;
+mod held;
 
-use crate::name::Name;
+pub use crate::held::Name;
 use std::str::from_utf8;
 
 /// The longest name, in bytes.
 pub const LONGEST: usize = 16;
-
-/// Whether this byte may stand at place k of a name.
-pub fn may_stand(k: usize, b: u8) -> bool
-    ensures { λ r. ⌜ r ≡ in-name k b ⌝ }
-{
-    match b {
-        b'a'..=b'z' => true,
-        b'0'..=b'9' | b'_' => k > 0,
-        _ => false,
-    }
-}
 
 /// The place of the first byte that may not stand where it does.
 pub fn first_wrong(word: &[u8]) -> Option<usize>
@@ -34,6 +23,17 @@ pub fn first_wrong(word: &[u8]) -> Option<usize>
         }
     }
     None
+}
+
+// Whether this byte may stand at place k of a name.
+fn may_stand(k: usize, b: u8) -> bool
+    ensures { λ r. ⌜ r ≡ in-name k b ⌝ }
+{
+    match b {
+        b'a'..=b'z' => true,
+        b'0'..=b'9' | b'_' => k > 0,
+        _ => false,
+    }
 }
 
 // The bytes, and zeros behind them.

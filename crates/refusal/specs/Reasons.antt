@@ -4,7 +4,7 @@ use Prim.Native.Nat.{ℕ, _≤_}
 use lib.Dec.{lit≤}
 use Rattle.std.specs.declared.option.Option.{Option}
 use Rattle.std.specs.declared.option.Option.the-variants.{Some, None}
-use Rattle.refusal.specs.declared.cause.Cause.{Cause}
+use Rattle.refusal.specs.declared.held.Cause.{Cause}
 use Rattle.refusal.specs.declared.Reason.{Reason}
 use Rattle.refusal.specs.declared.Reason.the-variants.{ImageShort, KindOther, CountOutside, PairsCut, PairMisplaced, LengthWrong, PartIllFormed, NameRepeated, TextLong, ByteUnknown, NameLong, MarkIllFormed, NameUnlisted, SignMisplaced, BracketsDeep, StepsMany, StartOutside, RowsFew, OpeningOther, TableFull, EntryOutside, ExitsFull, EventHigh, BlocksOutside, EntryMissing, WordWrong, StateOutside, Closed}
 use Rattle.refusal.specs.declared.Refusal.{Refusal}

@@ -2,15 +2,12 @@
 ghost use mathlib.Core.Path.{_≡_};
 ghost use Rattle.refusal.specs.Reasons.{number-of, refused-at, closed-at, CauseOf, empty-part};
 
-pub mod cause;
+mod held;
 
-use crate::cause::Cause;
-use crate::cause::CauseDebug;
-use crate::cause::CauseEq;
-use crate::cause::CausePartialEq;
+pub use crate::held::Cause;
 
 /// Why something is refused. Each reason is defined by its number.
-#[derive(Clone, Copy, PartialEq, Eq, Debug)]
+#[derive(Clone, Copy)]
 pub enum Reason {
     /// An image has fewer than 4 bytes.
     ImageShort,
@@ -70,8 +67,8 @@ pub enum Reason {
     Closed(Cause),
 }
 
-/// Why, where, and for a closed state how many layers above the graph that closed it; else the depth is 0.
-#[derive(Clone, Copy, PartialEq, Eq, Debug)]
+/// Why and where. The depth is 0 but where a closed state is met: there it is how many layers stand above the graph that closed it.
+#[derive(Clone, Copy)]
 pub struct Refusal {
     pub reason: Reason,
     pub place: usize,
@@ -143,7 +140,7 @@ impl Reason {
 }
 
 impl Refusal {
-    /// A refusal that no closed state causes: its depth is 0.
+    /// A refusal of depth 0, for every reason but a closed state.
     pub fn at(reason: Reason, place: usize) -> Refusal
         ensures { λ r. ⌜ r ≡ refused-at reason place ⌝ }
     {

@@ -9,7 +9,7 @@ use Rattle.std.specs.declared.option.Option.the-variants.{Some, None}
 use Rattle.std.proofs.shelf.Lists.{at-drop-all, at-drop-more}
 use Rattle.std.proofs.shelf.Maps.{nth-getD}
 use Rattle.name.specs.Names.{Bytes}
-use Rattle.graph.specs.declared.exit.Exit.{Exit}
+use Rattle.graph.specs.declared.Exit.{Exit}
 use Rattle.report.specs.Texts.{events-line, event-line, event-lines, events-text, exit-line, exit-lines}
 
 -- a line that was left is written: what stands there and what is left still make the whole

@@ -12,7 +12,7 @@ use Rattle.name.specs.Names.{Bytes}
 use Rattle.refusal.specs.Reasons.{number-of}
 use Rattle.refusal.specs.declared.Refusal.{Refusal}
 use Rattle.graph.specs.Meanings.{Meaning, State, opened, closed}
-use Rattle.graph.specs.declared.exit.Exit.{Exit}
+use Rattle.graph.specs.declared.Exit.{Exit}
 use Rattle.image.specs.declared.Kind.{Kind}
 use Rattle.image.specs.declared.Kind.the-variants.{Events, Graph}
 
@@ -43,9 +43,9 @@ event-lines i (name ∷ names) = event-line i name ++ event-lines (i + 1) names
 abbrev pub events-text : List Bytes → Bytes
 events-text names = events-line (length names) ++ event-lines 0 names
 
--- how many states there are
-abbrev pub states-text : ℕ → Bytes
-states-text n = printed (codes "states" ∷ decimal n ∷ [])
+-- how many states a graph has
+abbrev pub states-text : Meaning → Bytes
+states-text G = printed (codes "states" ∷ decimal (G .size) ∷ [])
 
 -- the name of an event, or a dash where the list has none
 abbrev pub label : List Bytes → ℕ → Bytes

@@ -7,18 +7,19 @@ ghost use Rattle.events.specs.Held.{names-in};
 ghost use Rattle.graph.specs.Answers.{exits-of};
 ghost use Rattle.graph.specs.Buffers.{exits-in};
 ghost use Rattle.report.specs.Texts.{states-text, state-text, open-text, closed-line, exit-line, exit-lines};
-use events::list::EventList;
+use events::EventList;
+use graph::Exit;
+use graph::Exits;
 use graph::Graph;
-use graph::exit::Exit;
-use graph::exits::Exits;
 use std::alloc::AllocError;
 use std::alloc::Global;
 use std::fmt;
 
 /// `states N`.
-pub fn states_text(heap: Global, states: u16) -> Result<String, AllocError>
-    ensures { λ r. ⌜ made r (λ t. string-bytes t ≡ states-text states) ⌝ }
+pub fn states_text<G: Graph>(heap: Global, graph: &G) -> Result<String, AllocError>
+    ensures { λ r. ⌜ made r (λ t. string-bytes t ≡ states-text (meaning (now (graph .entry)))) ⌝ }
 {
+    let states = graph.states();
     format!(heap, "states {states}\n")
 }
 

@@ -7,16 +7,16 @@
 mod sweeps;
 
 use crate::sweeps::sweep;
-use events::list::EventList;
+use events::EventList;
+use graph::Exits;
 use graph::Graph;
-use graph::exits::Exits;
 use image::Kind;
 use image::Rejected;
-use image_graph::held::ImageGraph;
-use image_graph::reads::ImageGraphReads;
-use report::names::events_text;
-use report::states::state_text;
-use report::states::states_text;
+use image_graph::ImageGraph;
+use image_graph::ImageGraphReads;
+use report::events_text;
+use report::state_text;
+use report::states_text;
 use std::alloc::AllocError;
 use std::alloc::Global;
 use std::error::AnyError;
@@ -52,7 +52,7 @@ fn print_refusal(rt: &LibcRuntime, label: &str, back: Rejected) -> Result<(), An
 }
 
 fn print_states(rt: &LibcRuntime, list: &EventList, graph: &ImageGraph) -> Result<(), AnyError> {
-    rt.print(states_text(rt.alloc(), graph.states())?)?;
+    rt.print(states_text(rt.alloc(), graph)?)?;
     let mut exits = Exits::new();
     for s in 0..graph.states() {
         rt.print(state_text(rt.alloc(), list, graph, s, &mut exits)?)?;
@@ -100,26 +100,28 @@ fn try_graph(
 // One line of the table. The list that is accepted last takes the place of `names`.
 fn judge(rt: &LibcRuntime, line: &str, names: &mut Option<EventList>) -> Result<(), AnyError> {
     let mut words = line.split(' ');
-    let (Some(label), Some(kind), Some(digits)) = (words.next(), words.next(), words.next()) else {
-        return Ok(());
+    let (Some(label), Some(task), Some(digits)) = (words.next(), words.next(), words.next()) else {
+        return Err("a line has three words".into());
     };
     let bytes = decoded(rt.alloc(), digits.as_bytes())?;
-    if kind == "sweep-events" {
-        return sweep(rt, label, Kind::Events, bytes.as_slice());
-    }
-    if kind == "sweep-graph" {
-        return sweep(rt, label, Kind::Graph, bytes.as_slice());
-    }
-    if kind == "events" {
-        if let Some(list) = try_events(rt, label, bytes)? {
-            *names = Some(list);
+    match task {
+        "events" => {
+            if let Some(list) = try_events(rt, label, bytes)? {
+                *names = Some(list);
+            }
+            Ok(())
         }
-        return Ok(());
-    }
-    let shown = kind == "show";
-    match (try_graph(rt, label, bytes)?, names.as_ref()) {
-        (Some(graph), Some(list)) if shown => print_states(rt, list, &graph),
-        _ => Ok(()),
+        "graph" => {
+            try_graph(rt, label, bytes)?;
+            Ok(())
+        }
+        "show" => match (try_graph(rt, label, bytes)?, names.as_ref()) {
+            (Some(graph), Some(list)) => print_states(rt, list, &graph),
+            _ => Ok(()),
+        },
+        "sweep-events" => sweep(rt, label, Kind::Events, bytes.as_slice()),
+        "sweep-graph" => sweep(rt, label, Kind::Graph, bytes.as_slice()),
+        _ => Err("a task has no such word".into()),
     }
 }
 

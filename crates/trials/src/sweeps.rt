@@ -1,23 +1,27 @@
 //! Every value of every byte of an image.
-use events::list::EventList;
+use events::EventList;
 use image::Kind;
-use image_graph::held::ImageGraph;
-use refusal::Refusal;
-use refusal::RefusalPartialEq;
+use image::Rejected;
+use image_graph::ImageGraph;
 use std::alloc::AllocError;
 use std::alloc::Global;
 use std::error::AnyError;
 
-// Why these bytes are refused, if they are.
-fn refusal_of(kind: Kind, bytes: Vec<u8>) -> Option<Refusal> {
+// Number, place and depth of a refusal.
+fn told(back: Rejected) -> (u8, usize, u8) {
+    (back.why.reason.number(), back.why.place, back.why.depth)
+}
+
+// How these bytes are refused, if they are.
+fn refusal_of(kind: Kind, bytes: Vec<u8>) -> Option<(u8, usize, u8)> {
     match kind {
         Kind::Events => match EventList::load(bytes) {
             Ok(_) => None,
-            Err(back) => Some(back.why),
+            Err(back) => Some(told(back)),
         },
         Kind::Graph => match ImageGraph::load(bytes) {
             Ok(_) => None,
-            Err(back) => Some(back.why),
+            Err(back) => Some(told(back)),
         },
     }
 }
@@ -37,15 +41,12 @@ fn print_run(
     at: usize,
     first: u8,
     last: u8,
-    answer: Option<Refusal>,
+    answer: Option<(u8, usize, u8)>,
 ) -> Result<(), AnyError> {
     match answer {
         None => println!(rt, "{at} {first} {last} accepted")?,
-        Some(why) => {
-            let number = why.reason.number();
-            let place = why.place;
-            let depth = why.depth;
-            println!(rt, "{at} {first} {last} refused {number} {place} {depth}")?;
+        Some((number, place, depth)) => {
+            println!(rt, "{at} {first} {last} refused {number} {place} {depth}")?
         }
     }
     Ok(())

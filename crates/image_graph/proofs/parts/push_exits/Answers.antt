@@ -6,7 +6,7 @@ use lib.ListN.{length, take}
 use Rattle.std.specs.Iters.{counting}
 use Rattle.std.proofs.shelf.Counted.{length-map-counting, map-counting-more}
 use Rattle.std.proofs.shelf.Lists.{take-all}
-use Rattle.graph.specs.declared.exit.Exit.{Exit}
+use Rattle.graph.specs.declared.Exit.{Exit}
 use Rattle.image_graph.specs.Parts.{exit-at}
 use Rattle.image_graph.proofs.Spelling.{exits-length, exit-inside}
 use Rattle.image_graph.proofs.parts.push_exits.Needs as need

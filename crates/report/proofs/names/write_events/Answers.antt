@@ -16,7 +16,7 @@ pub cast-i : need.cast-i
 cast-i c =
     let list = c .args .events .now in
     let n = held-length list in
-    omega (arith, list .some)
+    omega (arith, list .sized)
 
 pub loop-i-again : need.loop-i-again
 loop-i-again c =

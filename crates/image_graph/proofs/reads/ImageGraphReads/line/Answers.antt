@@ -14,4 +14,4 @@ read-line-requires c κs =
     let bs = graph-bytes g in
     let s = c .args .s in
     let p = part-there (count-of bs) s (c .in-Some .part .now) (part-of bs s) (c .in-Some .ensures tt) in
-    subst (λ part. 0 < length part → 4 ≤ length part) (sym (p .1)) (λ some. held-state (g .image) (g .states) s (ltb-true s (count-of bs) (p .0)) some .0)
+    subst (λ part. 0 < length part → 4 ≤ length part) (sym (p .1)) (λ some. held-state (g .image) (g .isgraph) s (ltb-true s (count-of bs) (p .0)) some .0)
