@@ -10,7 +10,7 @@ use lib.ListN.{length, drop}
 use Rattle.std.specs.declared.option.Option.the-variants.{Some, None}
 use Rattle.std.proofs.shelf.Lists.{getD-take, getD-drop, getD-past, length-take}
 use Rattle.std.proofs.shelf.Tests.{cases-lt}
-use Rattle.name.specs.Names.{Bytes, name-length, Formed}
+use Rattle.name.specs.Names.{Bytes, NameLength, Formed}
 use Rattle.image.specs.Bytes.{byte-at, count-of, pair-at, offset-of, size-of, part-of}
 use Rattle.image.specs.Kinds.{kind-number, CountAllowed, LengthAllowed, ItemAt, WellFormed}
 use Rattle.image.specs.Images.{Valid}
@@ -32,7 +32,7 @@ held-inside image i h = ∥∥₁-elim (image .valid) (search props) (λ v. v .p
 pub name-formed : (bs : Bytes) → Valid Events bs → (i : ℕ) → i < count-of bs → Formed (part-of bs i)
 name-formed bs v i h =
     let l = part-length bs (v .placed) i h in
-    record { sized = subst name-length (sym l) (v .sized i h); spelled = λ k m. v .formed i h k m }
+    record { sized = subst NameLength (sym l) (v .sized i h); spelled = λ k m. v .formed i h k m }
 
 -- an image of kind 2 is one of a graph
 pub is-graph : (kind : Kind) → kind-number kind ≡ 2 → kind ≡ Graph

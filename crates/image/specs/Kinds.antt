@@ -4,7 +4,7 @@ use mathlib.Core.Bool.{true}
 use mathlib.Core.Logic.{_⊎_}
 use Prim.Native.Nat.{ℕ, _+_, _%_, _<_, _≤_}
 use lib.ListN.{length}
-use Rattle.name.specs.Names.{Bytes, in-name, name-length}
+use Rattle.name.specs.Names.{Bytes, in-name, NameLength}
 use Rattle.image.specs.Bytes.{byte-at, number16}
 use Rattle.image.specs.declared.Kind.{Kind}
 use Rattle.image.specs.declared.Kind.the-variants.{Events, Graph}
@@ -21,7 +21,7 @@ CountAllowed Graph n = n ≤ 4096
 
 -- a name has 1 to 16 bytes; a state has none, or a line and at most 1,024 exits, of 4 bytes each
 abbrev pub LengthAllowed : Kind → ℕ → Type 0
-LengthAllowed Events n = name-length n
+LengthAllowed Events n = NameLength n
 LengthAllowed Graph n = (n ≡ 0) ⊎ ((4 ≤ n) × (n ≤ 4100) × (n % 4 ≡ 0))
 
 -- where something stands in a part that must be well formed: each byte of a name; each exit, behind the line

@@ -9,7 +9,7 @@ use Rattle.std.proofs.shelf.Ascii.{ascii-from-reads}
 use Rattle.std.proofs.shelf.Lists.{getD-take, length-take-le}
 use Rattle.std.proofs.shelf.Text.{utf8-from-ascii}
 use Rattle.std.proofs.shelf.Ways.{tells}
-use Rattle.name.specs.Names.{Bytes, in-name, name-length, Formed}
+use Rattle.name.specs.Names.{Bytes, in-name, NameLength, Formed}
 use Rattle.name.specs.Held.{name-bytes}
 use Rattle.name.specs.declared.held.Name.{Name}
 
@@ -26,7 +26,7 @@ pub held-formed : (n : Name) → Formed (name-bytes n)
 held-formed n =
     let l = name-size n in
     record {
-      sized = subst name-length (sym l) (n .sized);
+      sized = subst NameLength (sym l) (n .sized);
       spelled = λ k h. let m : k < n .size = omega arith in ap (in-name k) (getD-take (n .size) (n .bytes) k 0 m) ∙ n .spelled k m;
     }
 

@@ -29,12 +29,12 @@ abbrev pub in-name : ℕ → ℕ → Bool
 in-name k b = cond (eqb k 0) (small-letter b) (goes-on b)
 
 -- how many bytes a name may have
-abbrev pub name-length : ℕ → Type 0
-name-length n = (1 ≤ n) × (n ≤ 16)
+abbrev pub NameLength : ℕ → Type 0
+NameLength n = (1 ≤ n) × (n ≤ 16)
 
 -- a small letter followed by small letters, digits or underscores, 1 to 16 bytes
 pub record Formed (w : Bytes) : Type 0 where
-  pub sized : name-length (length w)
+  pub sized : NameLength (length w)
   pub spelled : (k : ℕ) → k < length w → in-name k (getD w k 0) ≡ true
 
 -- the first byte that may not stand where it does, or none

@@ -3,7 +3,7 @@ ghost use mathlib.Core.Path.{_≡_};
 ghost use mathlib.Core.Bool.{true};
 ghost use Prim.Native.Nat.{ℕ, _<_};
 ghost use lib.ListN.{length, getD};
-ghost use Rattle.name.specs.Names.{in-name, name-length};
+ghost use Rattle.name.specs.Names.{in-name, NameLength};
 
 /// A small letter followed by small letters, digits or underscores, 1 to 16 bytes: the first `size` of the bytes.
 #[derive(Clone, Copy)]
@@ -11,6 +11,6 @@ pub struct Name {
     pub(crate) bytes: [u8; 16],
     pub(crate) size: usize,
     ghost whole: { length bytes ≡ 16 },
-    ghost sized: { name-length size },
+    ghost sized: { NameLength size },
     ghost spelled: { ((k : ℕ) → k < size → in-name k (getD bytes k 0) ≡ true) },
 }
