@@ -1,18 +1,17 @@
 -- What is read from an image keeps the bounds of a graph. Assumes nothing.
-use mathlib.Core.Path.{_≡_, sym, subst}
+use mathlib.Core.Path.{sym, subst}
 use Prim.Native.Nat.{ℕ, _+_, _-_, _*_, _/_, _<_, _≤_, _^_}
 use native.Mathlib.Omega.{arith}
 use lib.Dec.{eqb}
 use lib.ListN.{length}
 use borrow.Author.Tests.{false-eqb}
-use Rattle.std.specs.shelf.Lists.{All}
 use Rattle.std.proofs.shelf.Elements.{all-from-getD}
 use Rattle.std.proofs.shelf.Tests.{cond-both}
 use Rattle.refusal.specs.Reasons.{empty-part}
 use Rattle.graph.specs.Meanings.{opened, closed, ExitBounds, StateBounds, Bounds, LineBounds}
 use Rattle.image.specs.Bytes.{number32, count-of, part-of}
 use Rattle.image.proofs.Reading.{held-state, held-exit, held-count, part-octets}
-use Rattle.image_graph.specs.Parts.{exit-at, exits-from}
+use Rattle.image_graph.specs.Parts.{exits-from}
 use Rattle.image_graph.specs.Held.{meaning-of, lines-of, graph-bytes}
 use Rattle.image_graph.specs.declared.held.ImageGraph.{ImageGraph}
 use Rattle.image_graph.proofs.Spelling.{no-exit, exits-length, exit-there}

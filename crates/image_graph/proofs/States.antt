@@ -1,11 +1,11 @@
 -- A part spells one state, and valid bytes one graph. Assumes nothing.
-use mathlib.Core.Path.{_≡_, refl, sym, ap, subst, _∙_}
+use mathlib.Core.Path.{_≡_, refl, sym, ap, subst}
 use mathlib.Core.List.{List}
 use mathlib.Core.Logic.{⊎-elim}
 use Prim.Native.Nat.{ℕ, _+_, _*_, _<_}
 use native.Mathlib.Omega.{arith}
 use lib.Dec.{eqb}
-use lib.ListN.{length, getD}
+use lib.ListN.{length}
 use Rattle.std.specs.Finite.{nth}
 use Rattle.std.specs.declared.option.Option.the-variants.{Some}
 use Rattle.std.proofs.shelf.Lists.{ext-getD}
@@ -15,9 +15,9 @@ use Rattle.refusal.specs.Reasons.{empty-part}
 use Rattle.graph.specs.Meanings.{Meaning, State, opened, closed}
 use Rattle.graph.specs.declared.Exit.{Exit}
 use Rattle.name.specs.Names.{Bytes}
-use Rattle.image.specs.Bytes.{number32, count-of, part-of}
+use Rattle.image.specs.Bytes.{number32, part-of}
 use Rattle.image.specs.Kinds.{LengthAllowed}
-use Rattle.image.specs.Images.{Valid, image-rules}
+use Rattle.image.specs.Images.{Valid}
 use Rattle.image.specs.declared.Kind.the-variants.{Graph}
 use Rattle.image.proofs.Breaking.{part-length}
 use Rattle.image.proofs.Keeping.{valid-kept}

@@ -1,10 +1,10 @@
 -- What the bytes of a name are. Assumes nothing.
 use mathlib.Core.Path.{_≡_, sym, ap, subst, _∙_}
 use mathlib.Core.Bool.{true}
-use Prim.Native.Nat.{ℕ, _≤_, _<_}
+use Prim.Native.Nat.{ℕ, _<_}
 use native.Mathlib.Omega.{arith}
 use lib.ListN.{length, getD, take}
-use Rattle.std.specs.Text.{Ascii, Utf8}
+use Rattle.std.specs.Text.{Utf8}
 use Rattle.std.proofs.shelf.Ascii.{ascii-from-reads}
 use Rattle.std.proofs.shelf.Lists.{getD-take, length-take-le}
 use Rattle.std.proofs.shelf.Text.{utf8-from-ascii}

@@ -2,17 +2,15 @@ use mathlib.Core.Path.{_≡_, refl, sym, ap, subst, _∙_}
 use mathlib.Core.List.{map}
 use Prim.Native.Nat.{ℕ, _+_, _-_, _≤_, _<_}
 use native.Mathlib.Omega.{arith}
-use lib.ListN.{length, set, take}
+use lib.ListN.{set, take}
 use Rattle.std.specs.declared.option.Option.{Option}
 use Rattle.refusal.specs.Reasons.{refused-at}
 use Rattle.refusal.specs.Rules.{no-more, rule, FirstBroken}
 use Rattle.refusal.specs.declared.Reason.the-variants.{NameRepeated}
 use Rattle.name.specs.Held.{name-bytes}
-use Rattle.image.specs.Bytes.{count-of, part-of}
+use Rattle.image.specs.Bytes.{count-of}
 use Rattle.image.specs.Images.{AtPair}
-use Rattle.image.specs.Kinds.{CountAllowed}
 use Rattle.image.specs.Opened.{image-bytes}
-use Rattle.image.specs.declared.Kind.the-variants.{Events}
 use Rattle.image.proofs.Reading.{held-events}
 use Rattle.events.specs.Lists.{EventOf, first-names}
 use Rattle.events.specs.Images.{Repeated}

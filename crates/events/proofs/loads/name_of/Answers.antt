@@ -1,4 +1,4 @@
-use mathlib.Core.Path.{_≡_, sym, subst}
+use mathlib.Core.Path.{sym, subst}
 use mathlib.Core.Logic.{∥∥₁-elim}
 use denote.Struct.Props.{props}
 use Rattle.name.specs.Names.{Formed}

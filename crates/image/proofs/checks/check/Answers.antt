@@ -1,7 +1,5 @@
-use mathlib.Core.Path.{_≡_, sym, subst}
 use Prim.Native.Nat.{ℕ, _<_}
 use native.Mathlib.Omega.{arith}
-use borrow.Author.Needs.{needs}
 use Rattle.std.proofs.shelf.Results.{err-from-errBy}
 use Rattle.image.specs.Bytes.{count-of}
 use Rattle.image.specs.Images.{Placed}

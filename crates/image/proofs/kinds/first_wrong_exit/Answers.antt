@@ -1,8 +1,5 @@
-use mathlib.Core.Path.{_≡_, sym, subst}
-use mathlib.Core.Bool.{true, true≢false, false≢true}
-use Prim.Native.Nat.{ℕ, _*_, _<_}
+use mathlib.Core.Path.{sym, subst}
 use native.Mathlib.Omega.{arith}
-use borrow.Author.Needs.{needs}
 use Rattle.std.proofs.shelf.Ways.{not-from-decides}
 use Rattle.image.specs.Kinds.{WellFormed}
 use Rattle.image.specs.declared.Kind.the-variants.{Graph}

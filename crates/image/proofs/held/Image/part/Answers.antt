@@ -1,8 +1,8 @@
-use mathlib.Core.Path.{_≡_, sym, subst}
-use Prim.Native.Nat.{_+_, _<_, _≤_}
+use mathlib.Core.Path.{sym, subst}
+use Prim.Native.Nat.{_+_, _≤_}
 use native.Mathlib.Omega.{arith}
 use lib.ListN.{length}
-use Rattle.image.specs.Bytes.{count-of, pair-at, offset-of, size-of}
+use Rattle.image.specs.Bytes.{pair-at, offset-of, size-of}
 use Rattle.image.specs.Opened.{image-bytes}
 use Rattle.image.proofs.Reading.{held-paired, held-inside}
 use Rattle.image.proofs.held.Image.part.Needs as need

@@ -1,8 +1,7 @@
-use mathlib.Core.Path.{_≡_, sym, subst}
-use Prim.Native.Nat.{ℕ, _<_, _≤_}
+use mathlib.Core.Path.{sym, subst}
+use Prim.Native.Nat.{_<_, _≤_}
 use lib.ListN.{length}
 use Rattle.std.proofs.shelf.Tests.{ltb-true}
-use Rattle.name.specs.Names.{Bytes}
 use Rattle.image.specs.Bytes.{count-of, part-of}
 use Rattle.image.proofs.Reading.{held-state, part-there}
 use Rattle.image_graph.specs.Held.{graph-bytes}
