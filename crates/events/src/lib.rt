@@ -1,4 +1,6 @@
 //! Event lists: which number each event's name stands for.
+#![tactic(auto)]
+
 mod held;
 mod loads;
 mod reads;

@@ -1,4 +1,6 @@
 //! What a graph of controller states is, and what it answers.
+#![tactic(auto)]
+
 ghost use Rattle.std.specs.Prelude.{◌≡◌, ℕ};
 ghost use Rattle.graph.specs.Meanings.{Meaning, Bounds, LineBounds};
 ghost use Rattle.graph.specs.Answers.{state_answer, exits_of, exit_answer, line_answer};

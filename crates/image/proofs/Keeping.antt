@@ -1,5 +1,5 @@
 -- Valid bytes keep every rule of an image. Assumes nothing.
-use Rattle.std.proofs.Common.{ℕ, ◌<◌, length, refl, arith}
+use Rattle.std.proofs.Common.{ℕ, ◌<◌, refl, arith}
 use Rattle.refusal.specs.Rules.{Rules, ◌and_then◌, Kept, FirstBroken}
 use Rattle.refusal.specs.declared.Reason.{Reason}
 use Rattle.refusal.specs.declared.Reason.TheVariants.{PairMisplaced, LengthWrong}

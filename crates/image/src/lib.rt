@@ -1,4 +1,6 @@
 //! Images: a header, pairs of offset and length, and parts.
+#![tactic(auto)]
+
 ghost use Rattle.std.specs.Prelude.{◌≡◌};
 ghost use Rattle.image.specs.Bytes.{pair_at};
 

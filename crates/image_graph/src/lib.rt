@@ -1,4 +1,6 @@
 //! The image graph: part i of its image is state i, empty where the state is closed.
+#![tactic(auto)]
+
 mod held;
 mod loads;
 mod parts;

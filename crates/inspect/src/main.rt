@@ -1,4 +1,6 @@
 //! `inspect EVENTS GRAPH` prints the events and the states of a controller build, from its two images.
+#![tactic(auto)]
+
 use anyhow::anyhow;
 use events::EventList;
 use graph::{Exits, Graph};

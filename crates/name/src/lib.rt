@@ -1,4 +1,6 @@
 //! Names of events: how one is formed, and a type that holds nothing else.
+#![tactic(auto)]
+
 ghost use Rattle.std.specs.Prelude.{◌≡◌, ◌≤◌, length, take};
 ghost use Rattle.name.specs.Names.{in_name, FirstWrong};
 ghost use Rattle.name.specs.Held.{name_bytes, NameOf};

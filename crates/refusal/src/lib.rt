@@ -1,4 +1,6 @@
 //! What a call answers when it refuses: a reason, a place and a depth.
+#![tactic(auto)]
+
 ghost use Rattle.std.specs.Prelude.{◌≡◌};
 ghost use Rattle.refusal.specs.Reasons.{number_of, refused_at, closed_at, CauseOf, empty_part};
 

@@ -1,4 +1,6 @@
 //! The texts that are printed of an event list, of a graph, and of a refusal of either. Each line ends in byte 10.
+#![tactic(auto)]
+
 mod names;
 mod refused;
 mod states;

@@ -7,7 +7,6 @@ ghost use Rattle.report.specs.Texts.{events_text, event_line};
 use events::EventList;
 use name::Name;
 use std::alloc::{AllocError, Global};
-use std::fmt;
 
 /// `events N`, and `event I NAME` for each event.
 pub fn events_text(heap: Global, events: &EventList) -> Result<String, AllocError>
@@ -16,12 +15,12 @@ pub fn events_text(heap: Global, events: &EventList) -> Result<String, AllocErro
     let mut text = String::new(heap);
     match write_events(&mut text, events) {
         Ok(()) => Ok(text),
-        Err(_) => Err(AllocError),
+        Err(why) => Err(why),
     }
 }
 
 // The text of an event list, behind what stands there.
-fn write_events(text: &mut String, events: &EventList) -> fmt::Result
+fn write_events(text: &mut String, events: &EventList) -> Result<(), AllocError>
     ensures { OnOk result (string_bytes text.new ≡ string_bytes text.old ++ events_text (names_in events.now)) }
 {
     let count = events.len();
@@ -35,7 +34,7 @@ fn write_events(text: &mut String, events: &EventList) -> fmt::Result
 }
 
 // The line of event i, which has this name, behind what stands there.
-fn write_event(text: &mut String, i: usize, name: Name) -> fmt::Result
+fn write_event(text: &mut String, i: usize, name: Name) -> Result<(), AllocError>
     ensures { OnOk result (string_bytes text.new ≡ string_bytes text.old ++ event_line i (name_bytes name)) }
 {
     let word = name.as_str();

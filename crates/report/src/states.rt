@@ -8,11 +8,10 @@ ghost use Rattle.report.specs.Texts.{states_text, state_text, open_text, closed_
 use events::EventList;
 use graph::{Exit, Exits, Graph};
 use std::alloc::{AllocError, Global};
-use std::fmt;
 
 /// `states N`.
 pub fn states_text<G: Graph>(heap: Global, graph: &G) -> Result<String, AllocError>
-    ensures { IfOk result (λ t. string_bytes t ≡ states_text (meaning graph.now)) }
+    ensures { IfOk result (λ t. string_bytes t ≡ states_text (G.meaning graph.now)) }
 {
     let states = graph.states();
     format!(in heap; "states {states}\n")
@@ -28,8 +27,8 @@ pub fn state_text<G: Graph>(
     s: u16,
     exits: &mut Exits,
 ) -> Result<String, AllocError>
-    ensures text { IfOk result (λ t. string_bytes t ≡ state_text (names_in events.now) (meaning graph.now) (lines graph.now) s) }
-    ensures exits { exits_in exits.new ≡ exits_of (meaning graph.now) s }
+    ensures text { IfOk result (λ t. string_bytes t ≡ state_text (names_in events.now) (G.meaning graph.now) (G.lines graph.now) s) }
+    ensures exits { exits_in exits.new ≡ exits_of (G.meaning graph.now) s }
 {
     let answer = graph.exits(s, exits);
     // Only a state that is not below the number of states has no line.
@@ -56,7 +55,7 @@ fn open_text(
     let mut text = format!(in heap; "state {s} line {line} exits {count}\n")?;
     match write_exits(&mut text, events, exits) {
         Ok(()) => Ok(text),
-        Err(_) => Err(AllocError),
+        Err(why) => Err(why),
     }
 }
 
@@ -68,7 +67,7 @@ fn closed_text(heap: Global, s: u16, number: u8, depth: u8) -> Result<String, Al
 }
 
 // The lines of these exits, behind what stands there.
-fn write_exits(text: &mut String, events: &EventList, exits: &[Exit]) -> fmt::Result
+fn write_exits(text: &mut String, events: &EventList, exits: &[Exit]) -> Result<(), AllocError>
     ensures { OnOk result (string_bytes text.new ≡ string_bytes text.old ++ exit_lines (names_in events.now) exits.now) }
 {
     for exit in exits {
@@ -78,7 +77,7 @@ fn write_exits(text: &mut String, events: &EventList, exits: &[Exit]) -> fmt::Re
 }
 
 // The line of this exit, behind what stands there.
-fn write_exit(text: &mut String, events: &EventList, exit: Exit) -> fmt::Result
+fn write_exit(text: &mut String, events: &EventList, exit: Exit) -> Result<(), AllocError>
     ensures { OnOk result (string_bytes text.new ≡ string_bytes text.old ++ exit_line (names_in events.now) exit) }
 {
     let event = exit.event;

@@ -4,6 +4,8 @@
 //! label and `accepted` or `refused NUMBER PLACE DEPTH`. Under `show` in place of `graph`, the text of an accepted
 //! graph follows, with the names of the last list that was accepted. Under `sweep-events` and `sweep-graph` each byte
 //! of the image takes each value in turn.
+#![tactic(auto)]
+
 mod sweeps;
 
 use crate::sweeps::sweep;

@@ -7,11 +7,11 @@ use Rattle.events.proofs.reads.position.Goals.{After-eq}
 use Rattle.std.proofs.lemmas.Bool.Decides.{Decides-eqb}
 
 -- name i is what was compared
-compared : (c : After-eq) → get_or (map name_bytes c.args.names.now) c.loop-i.i [] ≡ c.as-bytes.result.now
+compared : (c : After-eq) → get_or (map name_bytes c.args.names.now) c.loop-i.i [] ≡ c.as_bytes.result.now
 compared c =
     get_or-map name_bytes c.args.names.now c.loop-i.i c.index-names-i.result [] c.loop-i-test.true
     ∙ ap name_bytes (sym c.index-names-i.is)
-    ∙ sym c.as-bytes.ensures
+    ∙ sym c.as_bytes.ensures
 
 pub returns-then-eq : goal.returns-then-eq
 returns-then-eq c =

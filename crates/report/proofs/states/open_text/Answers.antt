@@ -6,4 +6,4 @@ use Rattle.report.proofs.states.open_text.Goals as goal
 pub returns-in-Ok : goal.returns-in-Ok
 returns-in-Ok c =
     c.in-Ok.ensures
-    ∙ ap (λ bs. bs ++ exit_lines (names_in c.args.events.now) c.args.exits.now) c.in-ok-text.ensures.ok
+    ∙ ap (λ bs. bs ++ exit_lines (names_in c.args.events.now) c.args.exits.now) c.in_ok-text.ensures.ok

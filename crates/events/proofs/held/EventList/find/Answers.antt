@@ -9,10 +9,10 @@ use Rattle.events.proofs.held.EventList.find.Goals.{After-position}
 found : (c : After-position) → EventOf (names_in c.args.self.now) c.args.word.now c.position.result
 found c = let list = c.args.self.now in subst (λ names. EventOf names c.args.word.now c.position.result) (names_front list.entries list.count) c.position.ensures
 
-pub overflow-cast-result : goal.overflow-cast-result
-overflow-cast-result c =
+pub overflow_cast-result : goal.overflow_cast-result
+overflow_cast-result c =
     let list = c.args.self.now in
-    let at = subst (EventOf (names_in list) c.args.word.now) c.in-Some.is (found (goal.at.overflow-cast-result c).After-position) in
+    let at = subst (EventOf (names_in list) c.args.word.now) c.in-Some.is (found (goal.at.overflow_cast-result c).After-position) in
     record { fits = omega (arith, at.0, held_length list, list.sized) }
 
 pub returns-in-Some : goal.returns-in-Some

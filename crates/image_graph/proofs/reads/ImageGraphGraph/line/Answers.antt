@@ -5,8 +5,8 @@ use Rattle.image.proofs.Reading.{held_state, part_there}
 use Rattle.image_graph.specs.Held.{graph_bytes}
 use Rattle.image_graph.proofs.reads.ImageGraphGraph.line.Goals as goal
 
-pub read-line-requires : goal.read-line-requires
-read-line-requires c =
+pub read_line-requires : goal.read_line-requires
+read_line-requires c =
     let g = c.args.self.now in
     let bs = graph_bytes g in
     let s = c.args.s in

@@ -8,14 +8,14 @@ all_right : (w : Bytes) (r : Option ℕ) → FirstWrong w r → false ≡ is_som
 all_right w None h e = h
 all_right w (Some j) h e = let z : ◌≡◌ {A = ℕ} 0 1 = cc in absurd (omega arith)
 
-pub invariant-of-result : goal.invariant-of-result
-invariant-of-result c =
+pub invariant_of-result : goal.invariant_of-result
+invariant_of-result c =
     let w = c.args.word.now in
-    let right = all_right w c.first-wrong.result c.first-wrong.ensures c.if-is-some.ensures in
-    (c.padded-bytes.ensures.whole, ((omega arith, omega arith), (spelled_by c.padded-bytes.result w (length w) refl c.padded-bytes.ensures.front right, tt)))
+    let right = all_right w c.first_wrong.result c.first_wrong.ensures c.if-is_some.ensures in
+    record { whole = c.padded-bytes.ensures.whole; sized = (omega arith, omega arith); spelled = spelled_by c.padded-bytes.result w (length w) refl c.padded-bytes.ensures.front right }
 
 pub returns : goal.returns
 returns c =
     let w = c.args.word.now in
-    let right = all_right w c.first-wrong.result c.first-wrong.ensures c.if-is-some.ensures in
+    let right = all_right w c.first_wrong.result c.first_wrong.ensures c.if-is_some.ensures in
     (c.padded-bytes.ensures.front, record { sized = (omega arith, omega arith); spelled = right })
