@@ -1,6 +1,6 @@
 -- The meaning of a graph and its bounds. Assumes nothing.
 use Rattle.std.specs.Prelude.{◌≡◌, ℕ, ◌^◌, ◌<◌, ◌≤◌, List, [], length}
-use Rattle.std.specs.List.{AllByRecursion as All}
+use Rattle.std.specs.List.{AllByRecursion}
 use Rattle.refusal.specs.declared.held.Cause.{Cause}
 use Rattle.graph.specs.declared.Exit.{Exit}
 
@@ -26,7 +26,7 @@ pub record ExitBounds (n : ℕ) (x : Exit) : Type 0 where
 
 -- a state of a graph of n states: at most 1,024 exits, or a depth from 0 to 255
 abbrev pub StateBounds : ℕ → State → Type 0
-StateBounds n (opened xs) = (length xs ≤ 1024) × All (ExitBounds n) xs
+StateBounds n (opened xs) = (length xs ≤ 1024) × AllByRecursion (ExitBounds n) xs
 StateBounds n (closed cause depth) = depth ≤ 255
 
 -- the bounds that every graph keeps
