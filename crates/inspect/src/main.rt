@@ -8,6 +8,7 @@ use image::Kind;
 use image_graph::ImageGraph;
 use refusal::Refusal;
 use report::{events_text, refused_text, state_text, states_text};
+use std::process::ExitCode;
 use std::{env, fs};
 
 // The paths of the two images.
@@ -66,12 +67,12 @@ fn inspect(rt: &HostRuntime) -> anyhow::Result<()> {
     }
 }
 
-fn main(rt: HostRuntime) -> anyhow::Result<()> {
+fn main(rt: HostRuntime) -> ExitCode {
     match inspect(&rt) {
-        Ok(()) => Ok(()),
+        Ok(()) => ExitCode::SUCCESS,
         Err(why) => {
-            eprintln!(rt; "inspect: {why}")?;
-            Err(why)
+            let _ = eprintln!(rt; "inspect: {why}");
+            ExitCode::FAILURE
         }
     }
 }
