@@ -55,9 +55,11 @@ def main():
             own.update(own_names(path, text))
     own.add("where-it-is")
     dashed = {name for name in own if "-" in name}
+    heard = {}
     for name in sorted(dashed):
-        if respelled(name) in own:
-            sys.exit(f"{name} would fall together with {respelled(name)}")
+        if respelled(name) in own or respelled(name) in heard:
+            sys.exit(f"{name} would fall together with {heard.get(respelled(name), respelled(name))}")
+        heard[respelled(name)] = name
     operators = {name.strip("◌"): respelled(name.strip("◌")) for name in dashed if "◌" in name}
     turned = {name: respelled(name) for name in dashed} | operators
     token = re.compile(r"(?<![A-Za-z◌0-9_'ℕ·-])(\.?)(" + "|".join(re.escape(n) for n in sorted(turned, key=len, reverse=True)) + r")(?![A-Za-z◌0-9_'ℕ·-])")
