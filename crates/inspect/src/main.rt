@@ -9,7 +9,30 @@ use image_graph::ImageGraph;
 use refusal::Refusal;
 use report::{events_text, refused_text, state_text, states_text};
 use std::process::ExitCode;
-use std::{env, fs};
+use std::{env, fmt, fs, io};
+
+// Why nothing, or not all, is printed.
+#[derive(Drop)]
+enum Fault {
+    // The file at this path cannot be read.
+    Unreadable(String, io::Error),
+    Other(anyhow::Error),
+}
+
+impl fmt::Display for Fault {
+    fn fmt<W: fmt::Write>(&self, f: &mut fmt::Formatter<W>) -> fmt::Result {
+        match self {
+            Fault::Unreadable(path, why) => write!(f, "cannot read {path}: {why}"),
+            Fault::Other(why) => write!(f, "{why}"),
+        }
+    }
+}
+
+impl From<anyhow::Error> for Fault {
+    fn from(why: anyhow::Error) -> Fault {
+        Fault::Other(why)
+    }
+}
 
 // The paths of the two images.
 #[derive(Drop)]
@@ -29,10 +52,10 @@ fn two_paths(rt: &HostRuntime) -> anyhow::Result<Paths> {
 }
 
 // The bytes of a file.
-fn read(rt: &HostRuntime, path: &str) -> anyhow::Result<Vec<u8>> {
-    match fs::read(rt, path) {
+fn read(rt: &HostRuntime, path: String) -> Result<Vec<u8>, Fault> {
+    match fs::read(rt, path.as_str()) {
         Ok(bytes) => Ok(bytes),
-        Err(why) => Err(anyhow!(format!(in rt.alloc(); "cannot read {path}: {why}")?)),
+        Err(why) => Err(Fault::Unreadable(path, why)),
     }
 }
 
@@ -52,10 +75,8 @@ fn print_states(rt: &HostRuntime, events: &EventList, graph: &ImageGraph) -> any
     Ok(())
 }
 
-fn inspect(rt: &HostRuntime) -> anyhow::Result<()> {
-    let paths = two_paths(rt)?;
-    let event_bytes = read(rt, paths.events.as_str())?;
-    let graph_bytes = read(rt, paths.graph.as_str())?;
+// The events and the states of a build, from the bytes of its two images.
+fn print_build(rt: &HostRuntime, event_bytes: Vec<u8>, graph_bytes: Vec<u8>) -> anyhow::Result<()> {
     let events = match EventList::load(event_bytes) {
         Ok(events) => events,
         Err(back) => return print_refusal(rt, Kind::Events, back.why),
@@ -65,6 +86,14 @@ fn inspect(rt: &HostRuntime) -> anyhow::Result<()> {
         Ok(graph) => print_states(rt, &events, &graph),
         Err(back) => print_refusal(rt, Kind::Graph, back.why),
     }
+}
+
+fn inspect(rt: &HostRuntime) -> Result<(), Fault> {
+    let Paths { events, graph } = two_paths(rt)?;
+    let event_bytes = read(rt, events)?;
+    let graph_bytes = read(rt, graph)?;
+    print_build(rt, event_bytes, graph_bytes)?;
+    Ok(())
 }
 
 fn main(rt: HostRuntime) -> ExitCode {
