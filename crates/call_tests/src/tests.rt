@@ -1,10 +1,11 @@
 //! Calls on a small list and a small graph, with answers from the rules.
 use events::EventList;
 use graph::{Exit, Exits, Graph};
-use image::Kind;
+use image::{Kind, Load};
 use image_graph::ImageGraph;
-use refusal::{Cause, Reason, Refusal};
-use report::{refused_text, state_text};
+use name::{Name, NoName};
+use refusal::{Cause, NoCause, Reason, Refusal};
+use report::{refused_text, state_text, state_texts};
 use std::alloc::Global;
 use std::test::Fail;
 
@@ -19,18 +20,17 @@ const STATES: [u8; 44] = [
     0, 0, 0, 0, 1, 0, 1, 0, 2, 0, 30, 0, 0, 0,
 ];
 
+// What these bytes are an image of.
+fn loaded<T: Load>(heap: Global, bytes: &[u8]) -> Result<T, Fail> {
+    Ok(T::load(bytes.to_vec(heap)?)?)
+}
+
 fn two_events(heap: Global) -> Result<EventList, Fail> {
-    match EventList::load(NAMES.to_vec(heap)?) {
-        Ok(list) => Ok(list),
-        Err(_) => Err(Fail::new("refused")),
-    }
+    loaded(heap, &NAMES)
 }
 
 fn three_states(heap: Global) -> Result<ImageGraph, Fail> {
-    match ImageGraph::load(STATES.to_vec(heap)?) {
-        Ok(graph) => Ok(graph),
-        Err(_) => Err(Fail::new("refused")),
-    }
+    loaded(heap, &STATES)
 }
 
 // Number, place and depth of a refusal.
@@ -38,43 +38,13 @@ fn told(why: Refusal) -> (u8, usize, u8) {
     (why.reason.number(), why.place, why.depth)
 }
 
+fn exit(event: u8, target: u16) -> Exit {
+    Exit { event, target }
+}
+
 // The first letter of an event's name.
 fn named(list: &EventList, event: u8) -> Option<u8> {
-    match list.name(event) {
-        Some(name) => name.as_bytes().first().copied(),
-        None => None,
-    }
-}
-
-// Event and target of exit k in a buffer.
-fn held(exits: &Exits, k: usize) -> Option<(u8, u16)> {
-    match exits.get(k) {
-        Some(exit) => Some((exit.event, exit.target)),
-        None => None,
-    }
-}
-
-// Event and target of an exit.
-fn read(graph: &ImageGraph, s: u16, k: u16) -> Result<Option<(u8, u16)>, Fail> {
-    match graph.exit(s, k) {
-        Ok(Some(exit)) => Ok(Some((exit.event, exit.target))),
-        Ok(None) => Ok(None),
-        Err(_) => Err(Fail::new("refused")),
-    }
-}
-
-fn refusal_at(graph: &ImageGraph, s: u16, exits: &mut Exits) -> Option<(u8, usize, u8)> {
-    match graph.exits(s, exits) {
-        Ok(()) => None,
-        Err(why) => Some(told(why)),
-    }
-}
-
-fn line_at(graph: &ImageGraph, s: u16) -> Result<u32, (u8, usize, u8)> {
-    match graph.line(s) {
-        Ok(line) => Ok(line),
-        Err(why) => Err(told(why)),
-    }
+    list.name(event)?.as_bytes().first().copied()
 }
 
 #[test]
@@ -93,14 +63,44 @@ fn names_and_events(rt: HostRuntime) -> Result<(), Fail> {
 }
 
 #[test]
+fn names_are_formed(rt: HostRuntime) -> Result<(), Fail> {
+    let long = Name::try_from(b"abcdefghij_12345".as_slice())?;
+    assert_eq!(rt; long.as_str(), "abcdefghij_12345");
+    assert_eq!(rt; long.to_string(rt.alloc())?.as_str(), "abcdefghij_12345");
+    assert_eq!(rt; Name::try_from(b"a".as_slice()), Ok(Name::default()));
+    assert_eq!(rt; Name::try_from(b"".as_slice()), Err(NoName));
+    assert_eq!(rt;
+        Name::try_from(b"abcdefghij_123456".as_slice()),
+        Err(NoName)
+    );
+    assert_eq!(rt; Name::try_from(b"_a".as_slice()), Err(NoName));
+    assert_eq!(rt; Name::try_from(b"1a".as_slice()), Err(NoName));
+    assert_eq!(rt; Name::try_from(b"aB".as_slice()), Err(NoName));
+    Ok(())
+}
+
+#[test]
+fn names_in_order(rt: HostRuntime) -> Result<(), Fail> {
+    let list = two_events(rt.alloc())?;
+    let mut letters = list
+        .names()
+        .iter()
+        .map(|name| name.as_bytes().first().copied());
+    assert_eq!(rt; letters.next(), Some(Some(b'a')));
+    assert_eq!(rt; letters.next(), Some(Some(b'b')));
+    assert_eq!(rt; letters.next(), None);
+    Ok(())
+}
+
+#[test]
 fn exits_one_by_one(rt: HostRuntime) -> Result<(), Fail> {
     let graph = three_states(rt.alloc())?;
     assert_eq!(rt; graph.states(), 3);
-    assert_eq!(rt; read(&graph, 0, 0)?, Some((0, 1)));
-    assert_eq!(rt; read(&graph, 0, 1)?, Some((1, 2)));
-    assert_eq!(rt; read(&graph, 0, 2)?, None);
-    assert_eq!(rt; read(&graph, 0, 65535)?, None);
-    assert_eq!(rt; read(&graph, 2, 0)?, None);
+    assert_eq!(rt; graph.exit(0, 0), Ok(Some(exit(0, 1))));
+    assert_eq!(rt; graph.exit(0, 1), Ok(Some(exit(1, 2))));
+    assert_eq!(rt; graph.exit(0, 2), Ok(None));
+    assert_eq!(rt; graph.exit(0, 65535), Ok(None));
+    assert_eq!(rt; graph.exit(2, 0), Ok(None));
     Ok(())
 }
 
@@ -108,17 +108,17 @@ fn exits_one_by_one(rt: HostRuntime) -> Result<(), Fail> {
 fn exits_at_once(rt: HostRuntime) -> Result<(), Fail> {
     let graph = three_states(rt.alloc())?;
     let mut exits = Exits::new();
-    assert_eq!(rt; refusal_at(&graph, 0, &mut exits), None);
+    assert_eq!(rt; graph.exits(0, &mut exits), Ok(()));
     assert_eq!(rt; exits.len(), 2);
-    assert_eq!(rt; held(&exits, 0), Some((0, 1)));
-    assert_eq!(rt; held(&exits, 1), Some((1, 2)));
-    assert_eq!(rt; held(&exits, 2), None);
-    assert_eq!(rt; refusal_at(&graph, 1, &mut exits), Some((31, 1, 0)));
+    assert_eq!(rt; exits.get(0), Some(exit(0, 1)));
+    assert_eq!(rt; exits.get(1), Some(exit(1, 2)));
+    assert_eq!(rt; exits.get(2), None);
+    assert_eq!(rt; graph.exits(1, &mut exits).map_err(told), Err((31, 1, 0)));
     assert_eq!(rt; exits.len(), 0);
-    assert_eq!(rt; refusal_at(&graph, 0, &mut exits), None);
-    assert_eq!(rt; refusal_at(&graph, 3, &mut exits), Some((30, 3, 0)));
+    assert_eq!(rt; graph.exits(0, &mut exits), Ok(()));
+    assert_eq!(rt; graph.exits(3, &mut exits).map_err(told), Err((30, 3, 0)));
     assert_eq!(rt; exits.len(), 0);
-    assert_eq!(rt; refusal_at(&graph, 2, &mut exits), None);
+    assert_eq!(rt; graph.exits(2, &mut exits), Ok(()));
     assert_eq!(rt; exits.as_slice().len(), 0);
     Ok(())
 }
@@ -126,11 +126,11 @@ fn exits_at_once(rt: HostRuntime) -> Result<(), Fail> {
 #[test]
 fn lines_of_states(rt: HostRuntime) -> Result<(), Fail> {
     let graph = three_states(rt.alloc())?;
-    assert_eq!(rt; line_at(&graph, 0), Ok(10));
-    assert_eq!(rt; line_at(&graph, 1), Ok(0));
-    assert_eq!(rt; line_at(&graph, 2), Ok(30));
-    assert_eq!(rt; line_at(&graph, 3), Err((30, 3, 0)));
-    assert_eq!(rt; line_at(&graph, 65535), Err((30, 65535, 0)));
+    assert_eq!(rt; graph.line(0).map_err(told), Ok(10));
+    assert_eq!(rt; graph.line(1).map_err(told), Ok(0));
+    assert_eq!(rt; graph.line(2).map_err(told), Ok(30));
+    assert_eq!(rt; graph.line(3).map_err(told), Err((30, 3, 0)));
+    assert_eq!(rt; graph.line(65535).map_err(told), Err((30, 65535, 0)));
     Ok(())
 }
 
@@ -138,11 +138,11 @@ fn lines_of_states(rt: HostRuntime) -> Result<(), Fail> {
 fn at_most_1024_exits(rt: HostRuntime) {
     let mut exits = Exits::new();
     for target in 0..1025u16 {
-        exits.push(Exit { event: 7, target });
+        exits.push(exit(7, target));
     }
     assert_eq!(rt; exits.len(), 1024);
-    assert_eq!(rt; held(&exits, 1023), Some((7, 1023)));
-    assert_eq!(rt; held(&exits, 1024), None);
+    assert_eq!(rt; exits.get(1023), Some(exit(7, 1023)));
+    assert_eq!(rt; exits.get(1024), None);
     exits.clear();
     assert_eq!(rt; exits.len(), 0);
 }
@@ -156,10 +156,10 @@ fn numbers_of_reasons(rt: HostRuntime) {
     assert_eq!(rt; Reason::StartOutside.number(), 20);
     assert_eq!(rt; Reason::StateOutside.number(), 30);
     assert_eq!(rt; Reason::Closed(Cause::empty_part()).number(), 31);
-    assert!(rt; Cause::new(30).is_none());
-    assert!(rt; Cause::new(31).is_some());
-    assert!(rt; Cause::new(39).is_some());
-    assert!(rt; Cause::new(40).is_none());
+    assert_eq!(rt; Cause::try_from(30), Err(NoCause(30)));
+    assert!(rt; Cause::try_from(31).is_ok());
+    assert!(rt; Cause::try_from(39).is_ok());
+    assert_eq!(rt; Cause::try_from(40), Err(NoCause(40)));
 }
 
 #[test]
@@ -180,6 +180,19 @@ fn texts_of_refusals(rt: HostRuntime) -> Result<(), Fail> {
 }
 
 #[test]
+fn refusals_shown_and_compared(rt: HostRuntime) -> Result<(), Fail> {
+    let outside = Refusal::at(Reason::StateOutside, 65535);
+    let closed = Refusal::closed(Cause::empty_part(), 4095, 255);
+    assert_eq!(rt; outside.to_string(rt.alloc())?.as_str(), "30 65535 0");
+    assert_eq!(rt; closed.to_string(rt.alloc())?.as_str(), "31 4095 255");
+    assert_eq!(rt; closed, Refusal::closed(Cause::empty_part(), 4095, 255));
+    assert_ne!(rt; closed, Refusal::closed(Cause::empty_part(), 4095, 254));
+    assert_ne!(rt; outside, Refusal::at(Reason::StateOutside, 65534));
+    assert_ne!(rt; outside, Refusal::at(Reason::EntryOutside, 65535));
+    Ok(())
+}
+
+#[test]
 fn texts_of_states(rt: HostRuntime) -> Result<(), Fail> {
     let list = two_events(rt.alloc())?;
     let graph = three_states(rt.alloc())?;
@@ -193,5 +206,20 @@ fn texts_of_states(rt: HostRuntime) -> Result<(), Fail> {
     assert_eq!(rt; closed.as_str(), "state 1 closed 31 0\n");
     let missing = state_text(rt.alloc(), &list, &graph, 3, &mut exits)?;
     assert_eq!(rt; missing.as_str(), "");
+    Ok(())
+}
+
+#[test]
+fn texts_of_all_states(rt: HostRuntime) -> Result<(), Fail> {
+    let list = two_events(rt.alloc())?;
+    let graph = three_states(rt.alloc())?;
+    let mut all = String::new(rt.alloc());
+    for text in state_texts(rt.alloc(), &list, &graph) {
+        all.push_str(text?.as_str())?;
+    }
+    assert_eq!(rt;
+        all.as_str(),
+        "state 0 line 10 exits 2\nexit 0 a 1\nexit 1 b 2\nstate 1 closed 31 0\nstate 2 line 30 exits 0\n"
+    );
     Ok(())
 }

@@ -1,23 +1,15 @@
 -- What an image of names settles. Assumes nothing.
-use Rattle.std.proofs.Common.{◌≡◌, List, [], length, Ok, Err, vec_items, sym, ◌∙◌, arith}
-use mathlib.Core.Logic.{∥∥₁_elim}
-use denote.Struct.Props.{props}
+use Rattle.std.proofs.Common.{◌≡◌, List, [], length, Ok, sym, ◌∙◌, arith}
 use Rattle.std.proofs.lemmas.List.{ext_get_or}
-use Rattle.refusal.specs.Rules.{no_more, rule, Kept, FirstBroken}
+use Rattle.refusal.specs.Rules.{no_more, rule, Kept}
 use Rattle.refusal.specs.declared.Reason.TheVariants.{NameRepeated}
-use Rattle.refusal.specs.declared.Refusal.{Refusal}
-use Rattle.refusal.proofs.Order.{kept_both, kept_unbroken, broken_early, broken_late}
+use Rattle.refusal.proofs.Order.{kept_both}
 use Rattle.name.specs.Names.{Bytes}
 use Rattle.image.specs.Images.{Valid, AtPair, image_rules}
-use Rattle.image.specs.Opened.{Refused}
-use Rattle.image.specs.declared.Rejected.{Rejected}
 use Rattle.image.specs.declared.Kind.TheVariants.{Events}
 use Rattle.image.proofs.Keeping.{valid_kept}
-use Rattle.events.specs.Held.{names_in}
-use Rattle.events.specs.Images.{EventImage, Repeated, event_rules, AcceptedList, RefusedList}
+use Rattle.events.specs.Images.{EventImage, Repeated, event_rules, AcceptedList}
 use Rattle.events.specs.Inner.{Gathered}
-use Rattle.events.specs.declared.held.EventList.{EventList}
-use Rattle.events.proofs.Names.{held_length}
 
 -- an image has one list of names
 pub one_list : (bs : Bytes) (names others : List Bytes) → EventImage bs names → EventImage bs others → names ≡ others
@@ -40,29 +32,8 @@ image_kept bs names e =
       tt,
     )
 
--- bytes that are refused spell no names
-pub spells_none : (bs : Bytes) (r : Refusal) → FirstBroken (event_rules bs) r → (names : List Bytes) → EventImage bs names → ⊥
-spells_none bs r b names e = kept_unbroken (event_rules bs) r (image_kept bs names e) b
-
 -- the names that were gathered from a valid image
-pub loaded_list : (bs : Bytes) (list : EventList) → Valid Events bs → Gathered bs (Ok list) → AcceptedList bs list
-loaded_list bs list v g =
-    let spelled : EventImage bs (names_in list) = record {
-      valid = v;
-      counted = held_length list ∙ g.0;
-      spelled = g.1;
-      distinct = λ i j h k e. ∥∥₁_elim list.distinct (hlevel props) (λ d. d i j h k e);
-    } in
-    record { spelled = spelled; only = λ names e. one_list bs names (names_in list) e spelled; kept = image_kept bs (names_in list) spelled }
-
--- an image that is refused as every image
-pub refused_early : (bs : Bytes) (back : Rejected) → Refused (image_rules Events bs) bs back → RefusedList bs back
-refused_early bs back r =
-    let b = broken_early (image_rules Events bs) (rule NameRepeated (AtPair bs (Repeated bs)) no_more) back.why r.why in
-    record { refused = record { why = b; returned = r.returned }; none = spells_none bs back.why b }
-
--- a name that is repeated in a valid image
-pub refused_late : (bs : Bytes) (back : Rejected) → Valid Events bs → Gathered bs (Err back.why) → vec_items back.bytes ≡ bs → RefusedList bs back
-refused_late bs back v g same =
-    let b = broken_late (image_rules Events bs) (rule NameRepeated (AtPair bs (Repeated bs)) no_more) back.why (valid_kept Events bs v) g in
-    record { refused = record { why = b; returned = same }; none = spells_none bs back.why b }
+pub loaded_list : (bs : Bytes) (names : List Bytes) → Valid Events bs → Gathered bs (Ok names) → AcceptedList bs names
+loaded_list bs names v g =
+    let spelled : EventImage bs names = record { valid = v; counted = g.0; spelled = g.1; distinct = g.2 } in
+    record { spelled = spelled; only = λ others e. one_list bs others names e spelled; kept = image_kept bs names spelled }

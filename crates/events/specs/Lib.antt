@@ -1,4 +1,3 @@
 pub mod Lists
-pub mod Held
 pub mod Images
 pub mod Inner

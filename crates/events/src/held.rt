@@ -1,15 +1,23 @@
 //! The names of the events, by number.
-ghost use Rattle.std.specs.Prelude.{◌≡◌, ◌≤◌, length};
-ghost use Rattle.events.specs.Lists.{Distinct, first_names};
-
+use arrayvec::ArrayVec;
 use name::Name;
+use std::marker::Model;
 
-/// One to 64 names, none twice: the first `count` of the entries, by number.
+/// One to 64 names, none twice. A contract sees the list of their bytes: event i has name i.
 #[derive(Drop)]
 pub struct EventList {
-    pub(crate) entries: [Name; 64],
-    pub(crate) count: usize,
-    ghost whole: { length entries ≡ 64 },
-    ghost sized: { (1 ≤ count) × (count ≤ 64) },
-    ghost distinct: { ∥ Distinct (first_names count entries) ∥₁ },
+    pub(crate) names: ArrayVec<Name, 64>,
+}
+
+impl Model for EventList {
+    ghost use Rattle.std.specs.Prelude.{List, map};
+    ghost use Rattle.name.specs.Names.{Bytes};
+    ghost use Rattle.name.specs.Held.{name_bytes};
+    ghost use Rattle.events.specs.Lists.{Listed};
+
+    ghost Value = { List Bytes };
+
+    ghost view = { λ list. map name_bytes list.names.items };
+
+    ghost invariant = { λ list. Listed (map name_bytes list.names.items) };
 }

@@ -9,15 +9,24 @@ ghost use Rattle.events.specs.Inner.{Gathered};
 
 use crate::EventList;
 use crate::reads::position;
-use image::{Image, Kind, Rejected, pair_place};
+use arrayvec::ArrayVec;
+use image::{Image, Kind, Load, Rejected, pair_place};
 use name::Name;
 use refusal::{Reason, Refusal};
 
-impl EventList {
+impl Load for EventList {
+    ghost KIND = { Events };
+
+    ghost loads = { Loaded };
+
+    ghost accepts = { λ bs list loaded. loaded.spelled.valid };
+
+    ghost returns = { λ bs back refused. refused.refused.returned };
+
+    const KIND: Kind = Kind::Events;
+
     /// The event list that the bytes are an image of, or the bytes back with the first rule that they break.
-    pub fn load(bytes: Vec<u8>) -> Result<EventList, Rejected>
-        ensures { Loaded bytes.items result }
-    {
+    fn load(bytes: Vec<u8>) -> Result<EventList, Rejected> {
         let image = Image::open(bytes, Kind::Events)?;
         match gather(&image) {
             Ok(list) => Ok(list),
@@ -35,13 +44,7 @@ fn name_of(image: &Image, i: u16) -> Name
     requires within { i < count_of (image_bytes image.now) }
     ensures { name_bytes result ≡ part_of (image_bytes image.now) i }
 {
-    let Some(part) = image.part(i) else {
-        unreachable()
-    };
-    let Some(name) = Name::new(part) else {
-        unreachable()
-    };
-    name
+    Name::try_from(image.part(i).unwrap()).unwrap()
 }
 
 // The names of an image, unless one is repeated.
@@ -49,15 +52,13 @@ fn gather(image: &Image) -> Result<EventList, Refusal>
     requires { image.now.kind ≡ Events }
     ensures { Gathered (image_bytes image.now) result }
 {
-    // Each place holds some name, so the first stands where no other does.
-    let mut entries = [name_of(image, 0); 64];
+    let mut names = ArrayVec::new();
     for i in 0..image.count() {
         let name = name_of(image, i);
-        if position(&entries[0..usize::from(i)], name.as_bytes()).is_some() {
+        if position(names.as_slice(), name.as_bytes()).is_some() {
             return Err(Refusal::at(Reason::NameRepeated, pair_place(i)));
         }
-        entries[usize::from(i)] = name;
+        names.push(name);
     }
-    let count = usize::from(image.count());
-    Ok(EventList { entries, count })
+    Ok(EventList { names })
 }

@@ -1,3 +1,2 @@
 pub mod Meanings
 pub mod Answers
-pub mod Buffers

@@ -1,13 +1,21 @@
 //! The exits of one state, as a graph hands them out.
-ghost use Rattle.std.specs.Prelude.{◌≡◌, ◌≤◌, length};
-
 use crate::Exit;
+use arrayvec::ArrayVec;
+use std::marker::Model;
 
-/// At most 1,024 exits in order: the first `count` of the entries.
+/// At most 1,024 exits in order. A contract sees the list of them.
 #[derive(Drop)]
 pub struct Exits {
-    pub(crate) entries: [Exit; 1024],
-    pub(crate) count: usize,
-    ghost few: { count ≤ 1024 },
-    ghost whole: { length entries ≡ 1024 },
+    pub(crate) entries: ArrayVec<Exit, 1024>,
+}
+
+impl Model for Exits {
+    ghost use Rattle.std.specs.Prelude.{◌≤◌, List, length};
+    ghost use Rattle.graph.specs.declared.Exit.{Exit};
+
+    ghost Value = { List Exit };
+
+    ghost view = { λ held. held.entries.items };
+
+    ghost invariant = { λ held. length held.entries.items ≤ 1024 };
 }

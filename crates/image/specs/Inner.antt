@@ -1,10 +1,10 @@
 -- The contracts of inner functions: nothing here is part of a public contract. Assumes nothing.
-use Rattle.std.specs.Prelude.{◌≡◌, ℕ, ◌<◌, ◌≤◌, length, Some, None, Ok, Err, Option, Result}
+use Rattle.std.specs.Prelude.{◌≡◌, ℕ, ◌<◌, List, [], length, slice_index_or, Some, None, Ok, Err, Option, Result}
 use Rattle.refusal.specs.Rules.{Rules, FirstBroken}
 use Rattle.refusal.specs.declared.Refusal.{Refusal}
 use Rattle.name.specs.Names.{Bytes}
-use Rattle.image.specs.Bytes.{kind_of, count_of, pair_at}
-use Rattle.image.specs.Kinds.{kind_number, CountAllowed, ItemAt, WellFormed}
+use Rattle.image.specs.Bytes.{number32, offset_of, size_of}
+use Rattle.image.specs.Kinds.{ItemAt, WellFormed}
 use Rattle.image.specs.declared.Kind.{Kind}
 
 -- a check is passed where P holds, and else refuses by the first broken rule
@@ -17,10 +17,14 @@ abbrev pub FirstIllFormed : Kind → ℕ → Bytes → Option ℕ → Type 0
 FirstIllFormed kind n part (Some k) = ItemAt kind part k × (WellFormed kind n part k → ⊥) × ((j : ℕ) → j < k → ItemAt kind part j → WellFormed kind n part j)
 FirstIllFormed kind n part None = (k : ℕ) → ItemAt kind part k → WellFormed kind n part k
 
--- the first bytes and the number of pairs are right
-pub record Headed (kind : Kind) (bs : Bytes) (n : ℕ) : Type 0 where
-  pub long : 4 ≤ length bs
-  pub known : kind_of bs ≡ kind_number kind
-  pub counted : CountAllowed kind (count_of bs)
-  pub paired : pair_at (count_of bs) ≤ length bs
-  pub count : n ≡ count_of bs
+-- the first number of a pair: where a part begins
+abbrev pub offset_in : List Bytes → ℕ
+offset_in pair = number32 (slice_index_or pair 0 []) 0
+
+-- the second number of a pair: how long a part is
+abbrev pub size_in : List Bytes → ℕ
+size_in pair = number32 (slice_index_or pair 1 []) 0
+
+-- each pair says the offset and the size of its part
+abbrev pub Spelled : Bytes → List (List Bytes) → Type 0
+Spelled bs pairs = (i : ℕ) → i < length pairs → (offset_in (slice_index_or pairs i []) ≡ offset_of bs i) × (size_in (slice_index_or pairs i []) ≡ size_of bs i)

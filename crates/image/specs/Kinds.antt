@@ -1,5 +1,5 @@
 -- What each kind of image asks of its count and of its parts. Assumes nothing.
-use Rattle.std.specs.Prelude.{◌≡◌, ℕ, ◌+◌, ◌%◌, ◌<◌, ◌≤◌, true, ◌⊎◌, length}
+use Rattle.std.specs.Prelude.{◌≡◌, ℕ, ◌+◌, ◌%◌, ◌<◌, ◌≤◌, true, ◌⊎◌, length, codes}
 use Rattle.name.specs.Names.{Bytes, in_name, NameLength}
 use Rattle.image.specs.Bytes.{byte_at, number16}
 use Rattle.image.specs.declared.Kind.{Kind}
@@ -9,6 +9,11 @@ use Rattle.image.specs.declared.Kind.TheVariants.{Events, Graph}
 abbrev pub kind_number : Kind → ℕ
 kind_number Events = 1
 kind_number Graph = 2
+
+-- an event list or a graph, in a word
+abbrev pub kind_word : Kind → Bytes
+kind_word Events = codes "events"
+kind_word Graph = codes "graph"
 
 -- 1 to 64 events; at most 4,096 states
 abbrev pub CountAllowed : Kind → ℕ → Type 0

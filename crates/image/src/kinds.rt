@@ -1,29 +1,20 @@
 //! What each kind of image asks of its count and of its parts.
-ghost use Rattle.std.specs.Prelude.{◌≡◌, ◌+◌, ◌≤◌, length, Decides};
-ghost use Rattle.image.specs.Kinds.{kind_number, CountAllowed, LengthAllowed, WellFormed};
+ghost use Rattle.std.specs.Prelude.{Some, Decides};
+ghost use Rattle.image.specs.Kinds.{kind_word, CountAllowed, LengthAllowed, WellFormed};
 ghost use Rattle.image.specs.Inner.{FirstIllFormed};
 ghost use Rattle.image.specs.declared.Kind.TheVariants.{Graph};
 
 use crate::Kind;
 use name::{LONGEST, first_wrong};
+use std::fmt;
 
 impl Kind {
-    // The number that stands in the header.
-    pub(crate) fn number(self) -> u16
-        ensures { result ≡ kind_number self }
-    {
-        match self {
-            Kind::Events => 1,
-            Kind::Graph => 2,
-        }
-    }
-
     // Whether an image may have so many parts.
     pub(crate) fn allows_count(self, count: u16) -> bool
         ensures { Decides result (CountAllowed self count) }
     {
         match self {
-            Kind::Events => count >= 1 && count <= 64,
+            Kind::Events => (1..=64).contains(&count),
             Kind::Graph => count <= 4096,
         }
     }
@@ -33,7 +24,7 @@ impl Kind {
         ensures { Decides result (LengthAllowed self size) }
     {
         match self {
-            Kind::Events => size >= 1 && size <= LONGEST,
+            Kind::Events => (1..=LONGEST).contains(&size),
             Kind::Graph => size <= 4100 && size % 4 == 0,
         }
     }
@@ -49,21 +40,36 @@ impl Kind {
     }
 }
 
-// Whether a well-formed exit stands at a place, in a graph of so many states.
-fn exit_stands(part: &[u8], k: usize, states: u16) -> bool
-    requires { k + 4 ≤ length part.now }
-    ensures { Decides result (WellFormed Graph states part.now k) }
-{
-    part[k] < 64 && part[k + 1] == 0 && u16::from_le_bytes([part[k + 2], part[k + 3]]) < states
+/// Its word.
+impl fmt::Display for Kind {
+    ghost output = { λ kind. Some (kind_word kind) };
+
+    fn fmt<W: fmt::Write>(&self, f: &mut fmt::Formatter<W>) -> fmt::Result {
+        f.write_str(match self {
+            Kind::Events => "events",
+            Kind::Graph => "graph",
+        })
+    }
 }
 
-// The place of the first ill-formed exit; exits stand behind the line, each in four bytes.
+// Whether an exit is well formed, in a graph of so many states.
+fn exit_stands(exit: &[u8; 4], states: u16) -> bool
+    ensures { Decides result (WellFormed Graph states exit.now 0) }
+{
+    let [event, zero, low, high] = exit;
+    *event < 64 && *zero == 0 && u16::from_le_bytes([*low, *high]) < states
+}
+
+// The place of the first ill-formed exit; exits stand behind the line, which takes four bytes as well.
 fn first_wrong_exit(part: &[u8], states: u16) -> Option<usize>
     ensures { FirstIllFormed Graph states part.now result }
 {
-    for j in 1..part.len() / 4 {
-        if !exit_stands(part, 4 * j, states) {
-            return Some(4 * j);
+    let ([_, exits @ ..], _) = part.as_chunks::<4>() else {
+        return None;
+    };
+    for (j, exit) in exits.iter().enumerate() {
+        if !exit_stands(exit, states) {
+            return Some(4 + 4 * j);
         }
     }
     None

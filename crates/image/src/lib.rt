@@ -5,24 +5,27 @@ ghost use Rattle.std.specs.Prelude.{◌≡◌};
 ghost use Rattle.image.specs.Bytes.{pair_at};
 
 mod checks;
+mod headed;
 mod held;
 mod kinds;
+mod load;
 mod open;
 
 pub use crate::held::Image;
+pub use crate::load::Load;
 use refusal::Refusal;
 
-/// What an image holds.
-#[derive(Clone, Copy)]
+/// What an image holds, by the number that stands in its header.
+#[derive(Clone, Copy, PartialEq, Eq, Debug)]
 pub enum Kind {
     /// The names of events.
-    Events,
+    Events = 1,
     /// The states of a graph.
-    Graph,
+    Graph = 2,
 }
 
 /// Bytes that were refused, handed back with the reason.
-#[derive(Drop)]
+#[derive(Debug, Drop)]
 pub struct Rejected {
     pub why: Refusal,
     pub bytes: Vec<u8>,

@@ -1,10 +1,12 @@
 //! Opening an image, and reading its parts.
-ghost use Rattle.std.specs.Prelude.{◌≡◌, if◌then◌else◌, Some, None, nat_lt};
+ghost use Rattle.std.specs.Prelude.{◌≡◌, ℕ, ◌<◌, if◌then◌else◌, Some, None, nat_lt, length};
 ghost use Rattle.std.specs.Option.{option_map};
 ghost use Rattle.image.specs.Bytes.{count_of, part_of};
+ghost use Rattle.image.specs.Images.{Placed};
 ghost use Rattle.image.specs.Opened.{image_bytes, Opened};
 
-use crate::checks::{check, part_of};
+use crate::checks::check;
+use crate::headed::{Headed, Span, pairs_of};
 use crate::held::Image;
 use crate::{Kind, Rejected};
 
@@ -30,10 +32,22 @@ impl Image {
     pub fn part(&self, i: u16) -> Option<&[u8]>
         ensures { option_map (λ x. x.now) result ≡ (if nat_lt i (count_of (image_bytes self.now)) then Some (part_of (image_bytes self.now) i) else None) }
     {
-        if i >= self.count {
-            return None;
+        let headed = self.headed();
+        let pair = headed.pairs.get(usize::from(i))?;
+        Some(headed.part(Span::read(pair)))
+    }
+
+    // Its bytes with their header and pairs.
+    fn headed(&self) -> Headed<'_>
+        ensures bytes { result.bytes.now ≡ image_bytes self.now }
+        ensures placed { (i : ℕ) → i < length result.pairs.now → Placed result.bytes.now i }
+    {
+        let bytes = self.bytes.as_slice();
+        Headed {
+            bytes,
+            kind: self.kind,
+            pairs: pairs_of(bytes, self.count),
         }
-        Some(part_of(self.bytes.as_slice(), i))
     }
 
     /// Its bytes; the image ends.

@@ -1,2 +1,3 @@
-pub mod States
 pub mod Opening
+pub mod Pieces
+pub mod States

@@ -3,3 +3,4 @@ pub mod Held
 pub mod Images
 pub mod Bounded
 pub mod Spelling
+pub mod Inner

@@ -1,6 +1,6 @@
 //! A graph that is read from an image.
 ghost use Rattle.std.specs.Prelude.{◌≡◌};
-ghost use Rattle.image.specs.Kinds.{kind_number};
+ghost use Rattle.image.specs.declared.Kind.TheVariants.{Graph};
 
 use image::Image;
 
@@ -8,5 +8,5 @@ use image::Image;
 #[derive(Drop)]
 pub struct ImageGraph {
     pub(crate) image: Image,
-    ghost isgraph: { kind_number image.kind ≡ 2 },
+    ghost isgraph: { image.kind ≡ Graph },
 }

@@ -1,14 +1,23 @@
 //! Loading a graph from an image.
+ghost use Rattle.image.specs.declared.Kind.TheVariants.{Graph};
 ghost use Rattle.image_graph.specs.Images.{Loaded};
 
 use crate::held::ImageGraph;
-use image::{Image, Kind, Rejected};
+use image::{Image, Kind, Load, Rejected};
 
-impl ImageGraph {
+impl Load for ImageGraph {
+    ghost KIND = { Graph };
+
+    ghost loads = { Loaded };
+
+    ghost accepts = { λ bs graph loaded. loaded.spelled.valid };
+
+    ghost returns = { λ bs back refused. refused.refused.returned };
+
+    const KIND: Kind = Kind::Graph;
+
     /// The graph that the bytes are an image of, or the bytes back with the first rule that they break.
-    pub fn load(bytes: Vec<u8>) -> Result<ImageGraph, Rejected>
-        ensures { Loaded bytes.items result }
-    {
+    fn load(bytes: Vec<u8>) -> Result<ImageGraph, Rejected> {
         let image = Image::open(bytes, Kind::Graph)?;
         Ok(ImageGraph { image })
     }

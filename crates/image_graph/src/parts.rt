@@ -1,51 +1,63 @@
 //! What stands in the part of a state.
-ghost use Rattle.std.specs.Prelude.{◌≡◌, ◌+◌, ◌<◌, ◌≤◌, [], length};
+ghost use Rattle.std.specs.Prelude.{◌≡◌, [], ◌<◌, ◌≤◌, length};
 ghost use Rattle.std.specs.List.{slice_get};
-ghost use Rattle.graph.specs.Buffers.{exits_in};
-ghost use Rattle.image_graph.specs.Parts.{exit_at, exits_from, source_line};
+ghost use Rattle.image.specs.Bytes.{number32};
+ghost use Rattle.image_graph.specs.Parts.{source_line};
+ghost use Rattle.image_graph.specs.Inner.{piece_exit, exits_read, ReadFrom};
 
 use graph::{Exit, Exits};
 
-// The exit at a place.
-fn read_exit(part: &[u8], k: usize) -> Exit
-    requires { k + 4 ≤ length part.now }
-    ensures { result ≡ exit_at part.now k }
+// The part of an open state: its line, and its exits.
+#[derive(Clone, Copy)]
+pub(crate) struct OpenPart<'a> {
+    pub(crate) line: &'a [u8; 4],
+    pub(crate) exits: &'a [[u8; 4]],
+}
+
+// The exit that four bytes spell.
+fn read_exit(piece: &[u8; 4]) -> Exit
+    ensures { result ≡ piece_exit piece.now }
 {
+    let [event, _, low, high] = piece;
     Exit {
-        event: part[k],
-        target: u16::from_le_bytes([part[k + 2], part[k + 3]]),
+        event: *event,
+        target: u16::from_le_bytes([*low, *high]),
     }
 }
 
-// How many exits stand behind the line.
-fn exits_behind(part: &[u8]) -> usize
-    requires { 4 ≤ length part.now }
-    ensures { result ≡ length (exits_from part.now) }
-{
-    (part.len() - 4) / 4
-}
-
-// Exit k of an open state's part.
-pub(crate) fn nth_exit(part: &[u8], k: u16) -> Option<Exit>
-    requires { 4 ≤ length part.now }
-    ensures { result ≡ slice_get (exits_from part.now) k }
-{
-    let k = usize::from(k);
-    if k >= exits_behind(part) {
-        return None;
+impl<'a> OpenPart<'a> {
+    // The line and the exits of a part, unless it has no line.
+    pub(crate) fn read(part: &'a [u8]) -> Option<OpenPart<'a>>
+        ensures { ReadFrom part.now result }
+    {
+        let (line, rest) = part.split_first_chunk()?;
+        let (exits, _) = rest.as_chunks();
+        Some(OpenPart { line, exits })
     }
-    Some(read_exit(part, 4 + 4 * k))
-}
 
-// All exits of an open state's part, into a buffer that holds none.
-pub(crate) fn push_exits(part: &[u8], out: &mut Exits)
-    requires lined { 4 ≤ length part.now }
-    requires few { length part.now ≤ 4100 }
-    requires cleared { exits_in out.old ≡ [] }
-    ensures { exits_in out.new ≡ exits_from part.now }
-{
-    for j in 0..exits_behind(part) {
-        out.push(read_exit(part, 4 + 4 * j));
+    // The line.
+    fn source_line(&self) -> u32
+        ensures { result ≡ number32 self.now.line.now 0 }
+    {
+        u32::from_le_bytes(*self.line)
+    }
+
+    // Exit k, or none where there are k or fewer.
+    pub(crate) fn exit(&self, k: u16) -> Option<Exit>
+        ensures { result ≡ slice_get (exits_read self.now) k }
+    {
+        self.exits.get(usize::from(k)).map(read_exit)
+    }
+
+    // All exits, into a buffer that holds none.
+    pub(crate) fn push_exits(&self, out: &mut Exits)
+        requires few { length (exits_read self.now) ≤ 1024 }
+        requires cleared { out.old ≡ [] }
+        ensures { out.new ≡ exits_read self.now }
+    {
+        for piece in self.exits {
+            out.push(read_exit(piece));
+        }
     }
 }
 
@@ -54,8 +66,8 @@ pub(crate) fn read_line(part: &[u8]) -> u32
     requires { 0 < length part.now → 4 ≤ length part.now }
     ensures { result ≡ source_line part.now }
 {
-    if part.is_empty() {
-        return 0;
+    match OpenPart::read(part) {
+        Some(open) => open.source_line(),
+        None => 0,
     }
-    u32::from_le_bytes([part[0], part[1], part[2], part[3]])
 }

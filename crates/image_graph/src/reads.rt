@@ -1,23 +1,32 @@
 //! Reading the image graph.
 ghost use Rattle.std.specs.Prelude.{◌≡◌};
-ghost use Rattle.graph.specs.Answers.{of_exits};
-ghost use Rattle.image_graph.specs.Parts.{state_of};
 ghost use Rattle.image_graph.specs.Held.{meaning_of, lines_of, graph_bytes};
+ghost use Rattle.image_graph.specs.Inner.{PartOf, OpenOf};
 ghost use Rattle.image_graph.specs.Bounded.{bounded, lines_bounded};
 
 use crate::held::ImageGraph;
-use crate::parts::{nth_exit, push_exits, read_line};
+use crate::parts::{OpenPart, read_line};
 use graph::{Exit, Exits, Graph};
 use refusal::{Cause, Reason, Refusal};
 
-// Refuses state s where its part is empty: it is closed.
-fn check_open(part: &[u8], s: u16) -> Result<(), Refusal>
-    ensures { result ≡ of_exits (state_of part.now) s (λ _. tt) }
-{
-    if part.is_empty() {
-        return Err(Refusal::closed(Cause::empty_part(), usize::from(s), 0));
+impl ImageGraph {
+    // The part of state s.
+    fn part(&self, s: u16) -> Result<&[u8], Refusal>
+        ensures { PartOf (graph_bytes self.now) s result }
+    {
+        let outside = Refusal::at(Reason::StateOutside, usize::from(s));
+        self.image.part(s).ok_or(outside)
     }
-    Ok(())
+
+    // The part of state s, unless the state is closed: then its part is empty.
+    fn open_part(&self, s: u16) -> Result<OpenPart<'_>, Refusal>
+        ensures { OpenOf (graph_bytes self.now) s result }
+    {
+        let Some(open) = OpenPart::read(self.part(s)?) else {
+            return Err(Refusal::closed(Cause::empty_part(), usize::from(s), 0));
+        };
+        Ok(open)
+    }
 }
 
 impl Graph for ImageGraph {
@@ -35,26 +44,15 @@ impl Graph for ImageGraph {
 
     fn exits(&self, s: u16, out: &mut Exits) -> Result<(), Refusal> {
         out.clear();
-        let Some(part) = self.image.part(s) else {
-            return Err(Refusal::at(Reason::StateOutside, usize::from(s)));
-        };
-        check_open(part, s)?;
-        push_exits(part, out);
+        self.open_part(s)?.push_exits(out);
         Ok(())
     }
 
     fn exit(&self, s: u16, k: u16) -> Result<Option<Exit>, Refusal> {
-        let Some(part) = self.image.part(s) else {
-            return Err(Refusal::at(Reason::StateOutside, usize::from(s)));
-        };
-        check_open(part, s)?;
-        Ok(nth_exit(part, k))
+        Ok(self.open_part(s)?.exit(k))
     }
 
     fn line(&self, s: u16) -> Result<u32, Refusal> {
-        let Some(part) = self.image.part(s) else {
-            return Err(Refusal::at(Reason::StateOutside, usize::from(s)));
-        };
-        Ok(read_line(part))
+        Ok(read_line(self.part(s)?))
     }
 }

@@ -3,11 +3,9 @@
 
 use anyhow::anyhow;
 use events::EventList;
-use graph::{Exits, Graph};
-use image::Kind;
+use image::Load;
 use image_graph::ImageGraph;
-use refusal::Refusal;
-use report::{events_text, refused_text, state_text, states_text};
+use report::{events_text, refused_text, state_texts, states_text};
 use std::process::ExitCode;
 use std::{env, fmt, fs, io};
 
@@ -53,39 +51,34 @@ fn two_paths(rt: &HostRuntime) -> anyhow::Result<Paths> {
 
 // The bytes of a file.
 fn read(rt: &HostRuntime, path: String) -> Result<Vec<u8>, Fault> {
-    match fs::read(rt, path.as_str()) {
-        Ok(bytes) => Ok(bytes),
-        Err(why) => Err(Fault::Unreadable(path, why)),
-    }
+    fs::read(rt, path.as_str()).map_err(|why| Fault::Unreadable(path, why))
 }
 
-// The line of a refusal, which ends the output.
-fn print_refusal(rt: &HostRuntime, kind: Kind, why: Refusal) -> anyhow::Result<()> {
-    rt.print(refused_text(rt.alloc(), kind, why)?)?;
-    Ok(())
-}
-
-// The number of states, and the text of each.
-fn print_states(rt: &HostRuntime, events: &EventList, graph: &ImageGraph) -> anyhow::Result<()> {
-    rt.print(states_text(rt.alloc(), graph)?)?;
-    let mut exits = Exits::new();
-    for s in 0..graph.states() {
-        rt.print(state_text(rt.alloc(), events, graph, s, &mut exits)?)?;
+// What these bytes are an image of. Where they are refused, the line that says so ends the output.
+fn load<T: Load>(rt: &HostRuntime, bytes: Vec<u8>) -> anyhow::Result<Option<T>> {
+    match T::load(bytes) {
+        Ok(loaded) => Ok(Some(loaded)),
+        Err(back) => {
+            rt.print(refused_text(rt.alloc(), T::KIND, back.why)?)?;
+            Ok(None)
+        }
     }
-    Ok(())
 }
 
 // The events and the states of a build, from the bytes of its two images.
 fn print_build(rt: &HostRuntime, event_bytes: Vec<u8>, graph_bytes: Vec<u8>) -> anyhow::Result<()> {
-    let events = match EventList::load(event_bytes) {
-        Ok(events) => events,
-        Err(back) => return print_refusal(rt, Kind::Events, back.why),
+    let Some(events) = load::<EventList>(rt, event_bytes)? else {
+        return Ok(());
     };
     rt.print(events_text(rt.alloc(), &events)?)?;
-    match ImageGraph::load(graph_bytes) {
-        Ok(graph) => print_states(rt, &events, &graph),
-        Err(back) => print_refusal(rt, Kind::Graph, back.why),
+    let Some(graph) = load::<ImageGraph>(rt, graph_bytes)? else {
+        return Ok(());
+    };
+    rt.print(states_text(rt.alloc(), &graph)?)?;
+    for text in state_texts(rt.alloc(), &events, &graph) {
+        rt.print(text?)?;
     }
+    Ok(())
 }
 
 fn inspect(rt: &HostRuntime) -> Result<(), Fault> {

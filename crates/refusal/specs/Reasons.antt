@@ -1,9 +1,10 @@
 -- The reasons by their numbers, and refusals made from them. Assumes nothing.
-use Rattle.std.specs.Prelude.{◌≡◌, ℕ, ◌≤◌, Some, None, Option}
+use Rattle.std.specs.Prelude.{◌≡◌, ℕ, ◌≤◌, Ok, Err, Result}
 use Rattle.std.proofs.Common.{lit≤}
 use Rattle.refusal.specs.declared.held.Cause.{Cause}
 use Rattle.refusal.specs.declared.Reason.{Reason}
 use Rattle.refusal.specs.declared.Reason.TheVariants.{ImageShort, KindOther, CountOutside, PairsCut, PairMisplaced, LengthWrong, PartIllFormed, NameRepeated, TextLong, ByteUnknown, NameLong, MarkIllFormed, NameUnlisted, SignMisplaced, BracketsDeep, StepsMany, StartOutside, RowsFew, OpeningOther, TableFull, EntryOutside, ExitsFull, EventHigh, BlocksOutside, EntryMissing, WordWrong, StateOutside, Closed}
+use Rattle.refusal.specs.declared.NoCause.{NoCause}
 use Rattle.refusal.specs.declared.Refusal.{Refusal}
 
 -- the number of each reason; a closed state's is its cause, 31 to 39
@@ -54,9 +55,9 @@ abbrev pub closed_at : Cause → ℕ → ℕ → Refusal
 closed_at cause s layers = record { reason = Closed cause; place = s; depth = layers }
 
 -- the cause of this number, which is there exactly for 31 to 39
-abbrev pub CauseOf : ℕ → Option Cause → Type 0
-CauseOf n (Some cause) = cause.number ≡ n
-CauseOf n None = 31 ≤ n → n ≤ 39 → ⊥
+abbrev pub CauseOf : ℕ → Result Cause NoCause → Type 0
+CauseOf n (Ok cause) = cause.number ≡ n
+CauseOf n (Err no_cause) = (no_cause.0 ≡ n) × (31 ≤ n → n ≤ 39 → ⊥)
 
 -- a state whose part of an image is empty is closed by 31
 abbrev pub empty_part : Cause

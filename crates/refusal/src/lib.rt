@@ -1,15 +1,18 @@
 //! What a call answers when it refuses: a reason, a place and a depth.
 #![tactic(auto)]
 
-ghost use Rattle.std.specs.Prelude.{◌≡◌};
+ghost use Rattle.std.specs.Prelude.{◌≡◌, Some};
 ghost use Rattle.refusal.specs.Reasons.{number_of, refused_at, closed_at, CauseOf, empty_part};
+ghost use Rattle.refusal.specs.Texts.{refusal_text};
 
 mod held;
 
 pub use crate::held::Cause;
+use std::error::Error;
+use std::fmt;
 
 /// Why something is refused. Each reason is defined by its number.
-#[derive(Clone, Copy)]
+#[derive(Clone, Copy, PartialEq, Eq, Debug)]
 pub enum Reason {
     /// An image has fewer than 4 bytes.
     ImageShort,
@@ -70,24 +73,32 @@ pub enum Reason {
 }
 
 /// Why and where. The depth is 0 but where a closed state is met: there it is how many layers stand above the graph that closed it.
-#[derive(Clone, Copy)]
+#[derive(Clone, Copy, PartialEq, Eq, Debug)]
 pub struct Refusal {
     pub reason: Reason,
     pub place: usize,
     pub depth: u8,
 }
 
-impl Cause {
-    /// The cause of this number, which is there for 31 to 39 only.
-    pub fn new(number: u8) -> Option<Cause>
-        ensures { CauseOf number result }
-    {
-        if number < 31 || number > 39 {
-            return None;
-        }
-        Some(Cause { number })
-    }
+/// A number that no cause has.
+#[derive(Clone, Copy, PartialEq, Eq, Debug)]
+pub struct NoCause(pub u8);
 
+impl TryFrom<u8> for Cause {
+    type Error = NoCause;
+
+    ghost try_from_gives = { CauseOf };
+
+    /// The cause of this number, which is there for 31 to 39 only.
+    fn try_from(number: u8) -> Result<Cause, NoCause> {
+        if number < 31 || number > 39 {
+            return Err(NoCause(number));
+        }
+        Ok(Cause { number })
+    }
+}
+
+impl Cause {
     /// The cause of a state whose part of an image is empty, 31.
     pub fn empty_part() -> Cause
         ensures { result ≡ empty_part }
@@ -164,3 +175,17 @@ impl Refusal {
         }
     }
 }
+
+impl fmt::Display for Refusal {
+    ghost output = { λ why. Some (refusal_text why) };
+
+    /// Number, place and depth.
+    fn fmt<W: fmt::Write>(&self, f: &mut fmt::Formatter<W>) -> fmt::Result {
+        let number = self.reason.number();
+        let place = self.place;
+        let depth = self.depth;
+        write!(f, "{number} {place} {depth}")
+    }
+}
+
+impl Error for Refusal {}

@@ -1,5 +1,7 @@
 -- The texts that are printed of events, states and refusals. Assumes nothing.
-use Rattle.std.specs.Prelude.{ℕ, ◌+◌, cond, List, [], ◌∷◌, ◌++◌, length, codes, decimal, nat_lt}
+use Rattle.std.specs.Prelude.{ℕ, ◌+◌, cond, List, [], ◌∷◌, ◌++◌, length, codes, decimal, nat_lt, ◌≡◌, ◌<◌, ◌≤◌, Some, None, Option, Result, IfOk, String, string_bytes}
+use Rattle.std.specs.declared.alloc.AllocError.{AllocError}
+use Rattle.std.specs.declared.alloc.Global.{Global}
 use Rattle.std.specs.List.{slice_get}
 use Rattle.std.specs.Option.{unwrap_or}
 use Rattle.name.specs.Names.{Bytes}
@@ -7,8 +9,8 @@ use Rattle.refusal.specs.Reasons.{number_of}
 use Rattle.refusal.specs.declared.Refusal.{Refusal}
 use Rattle.graph.specs.Meanings.{Meaning, State, opened, closed}
 use Rattle.graph.specs.declared.Exit.{Exit}
+use Rattle.image.specs.Kinds.{kind_word}
 use Rattle.image.specs.declared.Kind.{Kind}
-use Rattle.image.specs.declared.Kind.TheVariants.{Events, Graph}
 
 -- the words behind the first of a line, a blank before each, and byte 10
 abbrev pub printed_rest : List Bytes → Bytes
@@ -75,10 +77,10 @@ state_lines names s source_line (closed cause depth) = closed_line s cause.numbe
 abbrev pub state_text : List Bytes → Meaning → (ℕ → ℕ) → ℕ → Bytes
 state_text names G lines s = cond (nat_lt s G.size) (state_lines names s (lines s) (G.state s)) []
 
--- what is refused, in a word
-abbrev pub kind_word : Kind → Bytes
-kind_word Events = codes "events"
-kind_word Graph = codes "graph"
+-- the text of state s, and what state is next; nothing where no state is left
+abbrev pub NextText : List Bytes → Meaning → (ℕ → ℕ) → ℕ → Option (Result (String Global) AllocError) → ℕ → Type 0
+NextText names G lines s (Some text) next = (s < G.size) × (next ≡ s + 1) × IfOk text (λ t. string_bytes t ≡ state_text names G lines s)
+NextText names G lines s None next = (G.size ≤ s) × (next ≡ s)
 
 -- what is refused, the number of the reason, and the place
 abbrev pub refused_text : Kind → Refusal → Bytes

@@ -1,6 +1,5 @@
 //! The text of an event list.
 ghost use Rattle.std.specs.Prelude.{◌≡◌, ◌++◌, IfOk, string_bytes, OnOk};
-ghost use Rattle.events.specs.Held.{names_in};
 ghost use Rattle.name.specs.Held.{name_bytes};
 ghost use Rattle.report.specs.Texts.{events_text, event_line};
 
@@ -10,33 +9,28 @@ use std::alloc::{AllocError, Global};
 
 /// `events N`, and `event I NAME` for each event.
 pub fn events_text(heap: Global, events: &EventList) -> Result<String, AllocError>
-    ensures { IfOk result (λ t. string_bytes t ≡ events_text (names_in events.now)) }
+    ensures { IfOk result (λ t. string_bytes t ≡ events_text events.now) }
 {
     let mut text = String::new(heap);
-    match write_events(&mut text, events) {
-        Ok(()) => Ok(text),
-        Err(why) => Err(why),
-    }
+    write_events(&mut text, events)?;
+    Ok(text)
 }
 
 // The text of an event list, behind what stands there.
 fn write_events(text: &mut String, events: &EventList) -> Result<(), AllocError>
-    ensures { OnOk result (string_bytes text.new ≡ string_bytes text.old ++ events_text (names_in events.now)) }
+    ensures { OnOk result (string_bytes text.new ≡ string_bytes text.old ++ events_text events.now) }
 {
     let count = events.len();
     writeln!(text, "events {count}")?;
-    for i in 0..count {
-        if let Some(name) = events.name(i as u8) {
-            write_event(text, i, name)?;
-        }
+    for (i, name) in events.names().iter().enumerate() {
+        write_event(text, i, name)?;
     }
     Ok(())
 }
 
 // The line of event i, which has this name, behind what stands there.
-fn write_event(text: &mut String, i: usize, name: Name) -> Result<(), AllocError>
-    ensures { OnOk result (string_bytes text.new ≡ string_bytes text.old ++ event_line i (name_bytes name)) }
+fn write_event(text: &mut String, i: usize, name: &Name) -> Result<(), AllocError>
+    ensures { OnOk result (string_bytes text.new ≡ string_bytes text.old ++ event_line i (name_bytes name.now)) }
 {
-    let word = name.as_str();
-    writeln!(text, "event {i} {word}")
+    writeln!(text, "event {i} {name}")
 }

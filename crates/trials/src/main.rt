@@ -11,10 +11,9 @@ mod sweeps;
 use crate::sweeps::sweep;
 use anyhow::anyhow;
 use events::EventList;
-use graph::{Exits, Graph};
-use image::{Kind, Rejected};
+use image::Load;
 use image_graph::ImageGraph;
-use report::{events_text, state_text, states_text};
+use report::{events_text, state_texts, states_text};
 use std::alloc::{AllocError, Global};
 use std::io::{BufRead, BufReader};
 
@@ -29,56 +28,32 @@ fn digit(b: u8) -> u8 {
 
 // The bytes that hexadecimal digits write, two for each.
 fn decoded(heap: Global, digits: &[u8]) -> Result<Vec<u8>, AllocError> {
-    let mut bytes = Vec::new(heap);
-    for pair in digits.chunks_exact(2) {
-        if let [high, low] = pair {
-            bytes.push(digit(*high).wrapping_mul(16).wrapping_add(digit(*low)))?;
-        }
-    }
-    Ok(bytes)
+    let (pairs, _) = digits.as_chunks::<2>();
+    pairs
+        .iter()
+        .map(|[high, low]| digit(*high) << 4 | digit(*low))
+        .collect(heap)
 }
 
-fn print_refusal(rt: &HostRuntime, label: &str, back: Rejected) -> anyhow::Result<()> {
-    let number = back.why.reason.number();
-    let place = back.why.place;
-    let depth = back.why.depth;
-    println!(rt; "{label} refused {number} {place} {depth}")?;
-    Ok(())
-}
-
+// The number of states, and the text of each.
 fn print_states(rt: &HostRuntime, list: &EventList, graph: &ImageGraph) -> anyhow::Result<()> {
     rt.print(states_text(rt.alloc(), graph)?)?;
-    let mut exits = Exits::new();
-    for s in 0..graph.states() {
-        rt.print(state_text(rt.alloc(), list, graph, s, &mut exits)?)?;
+    for text in state_texts(rt.alloc(), list, graph) {
+        rt.print(text?)?;
     }
     Ok(())
 }
 
-// The list, where these bytes are one.
-fn try_events(rt: &HostRuntime, label: &str, bytes: Vec<u8>) -> anyhow::Result<Option<EventList>> {
-    match EventList::load(bytes) {
-        Ok(list) => {
+// What these bytes are an image of, or nothing where they are refused; either is printed.
+fn tried<T: Load>(rt: &HostRuntime, label: &str, bytes: Vec<u8>) -> anyhow::Result<Option<T>> {
+    match T::load(bytes) {
+        Ok(loaded) => {
             println!(rt; "{label} accepted")?;
-            rt.print(events_text(rt.alloc(), &list)?)?;
-            Ok(Some(list))
+            Ok(Some(loaded))
         }
         Err(back) => {
-            print_refusal(rt, label, back)?;
-            Ok(None)
-        }
-    }
-}
-
-// The graph, where these bytes are one.
-fn try_graph(rt: &HostRuntime, label: &str, bytes: Vec<u8>) -> anyhow::Result<Option<ImageGraph>> {
-    match ImageGraph::load(bytes) {
-        Ok(graph) => {
-            println!(rt; "{label} accepted")?;
-            Ok(Some(graph))
-        }
-        Err(back) => {
-            print_refusal(rt, label, back)?;
+            let why = back.why;
+            println!(rt; "{label} refused {why}")?;
             Ok(None)
         }
     }
@@ -93,21 +68,22 @@ fn judge(rt: &HostRuntime, line: &str, names: &mut Option<EventList>) -> anyhow:
     let bytes = decoded(rt.alloc(), digits.as_bytes())?;
     match task {
         "events" => {
-            if let Some(list) = try_events(rt, label, bytes)? {
+            if let Some(list) = tried::<EventList>(rt, label, bytes)? {
+                rt.print(events_text(rt.alloc(), &list)?)?;
                 *names = Some(list);
             }
             Ok(())
         }
         "graph" => {
-            try_graph(rt, label, bytes)?;
+            tried::<ImageGraph>(rt, label, bytes)?;
             Ok(())
         }
-        "show" => match (try_graph(rt, label, bytes)?, names.as_ref()) {
+        "show" => match (tried::<ImageGraph>(rt, label, bytes)?, names.as_ref()) {
             (Some(graph), Some(list)) => print_states(rt, list, &graph),
             _ => Ok(()),
         },
-        "sweep-events" => sweep(rt, label, Kind::Events, bytes.as_slice()),
-        "sweep-graph" => sweep(rt, label, Kind::Graph, bytes.as_slice()),
+        "sweep-events" => sweep::<EventList>(rt, label, bytes.as_slice()),
+        "sweep-graph" => sweep::<ImageGraph>(rt, label, bytes.as_slice()),
         _ => Err(anyhow!("a task has no such word")),
     }
 }

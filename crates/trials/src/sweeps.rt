@@ -1,26 +1,12 @@
 //! Every value of every byte of an image.
-use events::EventList;
-use image::{Kind, Rejected};
-use image_graph::ImageGraph;
+use image::Load;
+use refusal::Refusal;
 use std::alloc::{AllocError, Global};
-
-// Number, place and depth of a refusal.
-fn told(back: Rejected) -> (u8, usize, u8) {
-    (back.why.reason.number(), back.why.place, back.why.depth)
-}
+use std::fmt;
 
 // How these bytes are refused, if they are.
-fn refusal_of(kind: Kind, bytes: Vec<u8>) -> Option<(u8, usize, u8)> {
-    match kind {
-        Kind::Events => match EventList::load(bytes) {
-            Ok(_) => None,
-            Err(back) => Some(told(back)),
-        },
-        Kind::Graph => match ImageGraph::load(bytes) {
-            Ok(_) => None,
-            Err(back) => Some(told(back)),
-        },
-    }
+fn refusal_of<T: Load>(bytes: Vec<u8>) -> Option<Refusal> {
+    T::load(bytes).err().map(|back| back.why)
 }
 
 // The bytes with another value at a place.
@@ -32,42 +18,55 @@ fn with_byte(heap: Global, bytes: &[u8], at: usize, value: u8) -> Result<Vec<u8>
     Ok(changed)
 }
 
-// A run of values of one byte that have one answer.
-fn print_run(
-    rt: &HostRuntime,
+// The values of the byte at a place, from the first to the last, that have one answer.
+#[derive(Clone, Copy)]
+struct Run {
     at: usize,
     first: u8,
     last: u8,
-    answer: Option<(u8, usize, u8)>,
-) -> anyhow::Result<()> {
-    match answer {
-        None => println!(rt; "{at} {first} {last} accepted")?,
-        Some((number, place, depth)) => {
-            println!(rt; "{at} {first} {last} refused {number} {place} {depth}")?
+    answer: Option<Refusal>,
+}
+
+impl fmt::Display for Run {
+    fn fmt<W: fmt::Write>(&self, f: &mut fmt::Formatter<W>) -> fmt::Result {
+        let Run {
+            at,
+            first,
+            last,
+            answer,
+        } = self;
+        match answer {
+            None => write!(f, "{at} {first} {last} accepted"),
+            Some(why) => write!(f, "{at} {first} {last} refused {why}"),
         }
     }
+}
+
+fn sweep_byte<T: Load>(rt: &HostRuntime, bytes: &[u8], at: usize) -> anyhow::Result<()> {
+    let mut run = Run {
+        at,
+        first: 0,
+        last: 0,
+        answer: refusal_of::<T>(with_byte(rt.alloc(), bytes, at, 0)?),
+    };
+    for value in 1..=255u8 {
+        let answer = refusal_of::<T>(with_byte(rt.alloc(), bytes, at, value)?);
+        if answer != run.answer {
+            println!(rt; "{run}")?;
+            run.first = value;
+            run.answer = answer;
+        }
+        run.last = value;
+    }
+    println!(rt; "{run}")?;
     Ok(())
 }
 
-fn sweep_byte(rt: &HostRuntime, kind: Kind, bytes: &[u8], at: usize) -> anyhow::Result<()> {
-    let mut first = 0;
-    let mut answer = refusal_of(kind, with_byte(rt.alloc(), bytes, at, 0)?);
-    for value in 1..=255u8 {
-        let next = refusal_of(kind, with_byte(rt.alloc(), bytes, at, value)?);
-        if next != answer {
-            print_run(rt, at, first, value - 1, answer)?;
-            first = value;
-            answer = next;
-        }
-    }
-    print_run(rt, at, first, 255, answer)
-}
-
-// Prints what becomes of an image of this kind, for each value of each of its bytes.
-pub(crate) fn sweep(rt: &HostRuntime, label: &str, kind: Kind, bytes: &[u8]) -> anyhow::Result<()> {
+// Prints what becomes of an image, for each value of each of its bytes.
+pub(crate) fn sweep<T: Load>(rt: &HostRuntime, label: &str, bytes: &[u8]) -> anyhow::Result<()> {
     println!(rt; "{label}")?;
     for at in 0..bytes.len() {
-        sweep_byte(rt, kind, bytes, at)?;
+        sweep_byte::<T>(rt, bytes, at)?;
     }
     Ok(())
 }

@@ -1,6 +1,8 @@
+use Rattle.std.proofs.Common.{map}
+use Rattle.name.specs.Held.{name_bytes}
 use Rattle.image.specs.Opened.{image_bytes}
 use Rattle.events.proofs.Gathering.{Sofar}
 use Rattle.events.proofs.loads.gather.Given as goal
 
 abbrev pub invariant-loop-i : goal.invariant-loop-i
-invariant-loop-i l = Sofar (image_bytes l.image) l.entries l.i
+invariant-loop-i l = Sofar (image_bytes l.image) (map name_bytes l.names.items) l.i
