@@ -5,7 +5,7 @@ use image::{Kind, Load};
 use image_graph::ImageGraph;
 use name::{Name, NoName};
 use refusal::{Cause, NoCause, Reason, Refusal};
-use report::{refused_text, state_text, state_texts};
+use report::{refused_text, state_text, texts_by_state};
 use std::alloc::Global;
 use std::test::Fail;
 
@@ -214,7 +214,7 @@ fn texts_of_all_states(rt: HostRuntime) -> Result<(), Fail> {
     let list = two_events(rt.alloc())?;
     let graph = three_states(rt.alloc())?;
     let mut all = String::new(rt.alloc());
-    for text in state_texts(rt.alloc(), &list, &graph) {
+    for text in texts_by_state(rt.alloc(), &list, &graph) {
         all.push_str(text?.as_str())?;
     }
     assert_eq!(rt;

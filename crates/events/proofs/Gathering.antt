@@ -6,12 +6,7 @@ use Rattle.std.proofs.lemmas.Bool.{cases_lt}
 use Rattle.name.specs.Names.{Bytes}
 use Rattle.image.specs.Bytes.{part_of}
 use Rattle.events.specs.Lists.{Distinct, EventOf}
-
--- the names are those of the first n parts, and differ
-pub record Sofar (bs : Bytes) (names : List Bytes) (n : ℕ) : Type 0 where
-  pub counted : length names ≡ n
-  pub spelled : (k : ℕ) → k < n → get_or names k [] ≡ part_of bs k
-  pub distinct : Distinct names
+use Rattle.events.specs.Inner.{Sofar}
 
 -- a list with one more at its end
 module _ (names : List Bytes) (w : Bytes) where

@@ -1,9 +1,10 @@
 -- The names of a list, one by one. Assumes nothing.
-use Rattle.std.proofs.Common.{◌≡◌, ◌≢◌, ℕ, ◌<◌, List, [], ◌∷◌, map, length, get_or, Some, None, Option, sym, ◌∙◌, arith}
+use Rattle.std.proofs.Common.{◌≡◌, ◌≢◌, ℕ, ◌<◌, List, [], ◌∷◌, map, length, get_or, Some, None, Option, sym, ◌∙◌, subst, arith}
 use Rattle.std.proofs.lemmas.List.{get_or-map, length-map}
 use Rattle.std.specs.List.{AllWithin, HoldsAt}
 use Rattle.std.specs.Option.{MatchOption}
-use Rattle.name.specs.Names.{Bytes}
+use Rattle.name.specs.Names.{Bytes, Formed}
+use Rattle.name.proofs.Spelling.{held_formed}
 use Rattle.name.specs.Held.{name_bytes}
 use Rattle.name.specs.declared.held.Name.{Name}
 use Rattle.events.specs.Lists.{EventOf}
@@ -12,6 +13,13 @@ use Rattle.events.specs.Lists.{EventOf}
 name_at : (names : List Name) (k : ℕ) → k < length names → (d : Name) × (get_or (map name_bytes names) k [] ≡ name_bytes (get_or names k d))
 name_at [] k h = absurd (omega arith)
 name_at (n ∷ ns) k h = (n, get_or-map name_bytes (n ∷ ns) k n [] h)
+
+-- every name of a list is formed as one
+pub all_formed : (names : List Name) (k : ℕ) → k < length (map name_bytes names) → Formed (get_or (map name_bytes names) k [])
+all_formed names k h =
+    let n = length-map names name_bytes in
+    let at = name_at names k (omega arith) in
+    subst Formed (sym at.1) (held_formed (get_or names k at.0))
 
 -- the first name of these bytes is their event
 pub event_from_first : (names : List Name) (w : Bytes) (r : Option ℕ)

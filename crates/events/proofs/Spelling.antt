@@ -35,5 +35,5 @@ image_kept bs names e =
 -- the names that were gathered from a valid image
 pub loaded_list : (bs : Bytes) (names : List Bytes) → Valid Events bs → Gathered bs (Ok names) → AcceptedList bs names
 loaded_list bs names v g =
-    let spelled : EventImage bs names = record { valid = v; counted = g.0; spelled = g.1; distinct = g.2 } in
+    let spelled : EventImage bs names = record { valid = v; counted = g.counted; spelled = g.spelled; distinct = g.distinct } in
     record { spelled = spelled; only = λ others e. one_list bs others names e spelled; kept = image_kept bs names spelled }

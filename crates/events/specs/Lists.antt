@@ -1,14 +1,15 @@
 -- Lists of names, and the event of a name. Assumes nothing.
 use Rattle.std.specs.Prelude.{◌≡◌, ℕ, ◌<◌, ◌≤◌, List, [], length, Some, None, Option, ◌≢◌, slice_index_or}
-use Rattle.name.specs.Names.{Bytes}
+use Rattle.name.specs.Names.{Bytes, Formed}
 
 -- no name is listed twice
 abbrev pub Distinct : List Bytes → Type 0
 Distinct names = (i j : ℕ) → i < length names → j < length names → slice_index_or names i [] ≡ slice_index_or names j [] → i ≡ j
 
--- 1 to 64 names, none twice
+-- 1 to 64 names, each formed as one, none twice
 pub record Listed (names : List Bytes) : Type 0 where
   pub sized : (1 ≤ length names) × (length names ≤ 64)
+  pub formed : (i : ℕ) → i < length names → Formed (slice_index_or names i [])
   pub distinct : Distinct names
 
 -- the event of a name is its place in the list

@@ -4,7 +4,7 @@ ghost use Rattle.name.specs.Held.{name_bytes};
 ghost use Rattle.image.specs.Bytes.{count_of, part_of};
 ghost use Rattle.image.specs.Opened.{image_bytes};
 ghost use Rattle.image.specs.declared.Kind.TheVariants.{Events};
-ghost use Rattle.events.specs.Images.{Loaded};
+ghost use Rattle.events.specs.Images.{event_rules, Loaded};
 ghost use Rattle.events.specs.Inner.{Gathered};
 
 use crate::EventList;
@@ -17,11 +17,15 @@ use refusal::{Reason, Refusal};
 impl Load for EventList {
     ghost KIND = { Events };
 
+    ghost rules = { event_rules };
+
     ghost loads = { Loaded };
 
     ghost accepts = { λ bs list loaded. loaded.spelled.valid };
 
-    ghost returns = { λ bs back refused. refused.refused.returned };
+    ghost keeps = { λ bs list loaded. loaded.kept };
+
+    ghost refuses = { λ bs back refused. refused.refused };
 
     const KIND: Kind = Kind::Events;
 

@@ -19,7 +19,8 @@ impl EventList {
 
     /// The names, by number.
     pub fn names(&self) -> &[Name]
-        ensures { map name_bytes result.now ≡ self.now }
+        ensures names { map name_bytes result.now ≡ self.now }
+        ensures listed { Listed self.now }
     {
         self.names.as_slice()
     }

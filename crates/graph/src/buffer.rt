@@ -32,7 +32,8 @@ impl Exits {
 
     /// All of them, in order.
     pub fn as_slice(&self) -> &[Exit]
-        ensures { result.now ≡ self.now }
+        ensures exits { result.now ≡ self.now }
+        ensures few { length result.now ≤ 1024 }
     {
         self.entries.as_slice()
     }

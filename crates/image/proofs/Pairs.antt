@@ -5,16 +5,17 @@ use Rattle.std.specs.Simd.{first_chunks}
 use Rattle.name.specs.Names.{Bytes}
 use Rattle.image.specs.Bytes.{byte_at, number32, pair_at}
 use Rattle.image.specs.Inner.{Spelled}
-use Rattle.image.proofs.Chunks.{length-first_chunks, get_or-first_chunks, get_or_in_piece}
+use Rattle.image.proofs.Chunks.{get_or-first_chunks, get_or_in_piece}
 
 module _ (bs : Bytes) (numbers : List Bytes) (pairs : List (List Bytes))
     (cut : numbers ≡ first_chunks 4 (length (take (length bs - 4) (drop 4 bs)) / 4) (take (length bs - 4) (drop 4 bs)))
+    (numbers_many : length numbers ≡ length (take (length bs - 4) (drop 4 bs)) / 4)
     (paired : pairs ≡ first_chunks 2 (length numbers / 2) numbers) where
   behind : numbers ≡ first_chunks 4 (length (drop 4 bs) / 4) (drop 4 bs)
   behind = cut ∙ ap (λ ys. first_chunks 4 (length ys / 4) ys) (take_rest bs 4)
 
   many : length numbers ≡ (length bs - 4) / 4
-  many = ap length behind ∙ length-first_chunks 4 (length (drop 4 bs) / 4) (drop 4 bs) ∙ ap (λ n. n / 4) (length-drop 4 bs)
+  many = numbers_many ∙ ap (λ ys. length ys / 4) (take_rest bs 4) ∙ ap (λ n. n / 4) (length-drop 4 bs)
 
   -- number k stands four times as far behind the header
   number : (k : ℕ) → 4 + 4 * k + 4 ≤ length bs → get_or numbers k [] ≡ take 4 (drop (4 + 4 * k) bs)

@@ -2,10 +2,10 @@
 ghost use Rattle.std.specs.Prelude.{◌≡◌, ℕ, ◌<◌, length};
 ghost use Rattle.image.specs.Bytes.{byte_at, count_of, size_of};
 ghost use Rattle.image.specs.Kinds.{LengthAllowed};
-ghost use Rattle.image.specs.Images.{Placed, PartFormed, Valid, header_rules, place_rule, length_rule, part_rule, image_rules};
+ghost use Rattle.image.specs.Images.{PartFormed, Valid, header_rules, place_rule, length_rule, part_rule, image_rules};
 ghost use Rattle.image.specs.Inner.{Judged};
 
-use crate::headed::{Headed, Span, pairs_of};
+use crate::headed::{Headed, Laid, Span, pairs_of};
 use crate::{Kind, pair_place};
 use refusal::{Reason, Refusal};
 
@@ -32,8 +32,8 @@ impl<'a> Headed<'a> {
     }
 
     // Each part begins at or after the end of the one before, and ends inside the image.
-    fn check_pairs(&self) -> Result<(), Refusal>
-        ensures { Judged (λ _. (i : ℕ) → i < length self.now.pairs.now → Placed self.now.bytes.now i) (place_rule self.now.bytes.now) result }
+    fn lay_out(&self) -> Result<Laid<'a>, Refusal>
+        ensures { Judged (λ laid. laid.headed ≡ self.now) (place_rule self.now.bytes.now) result }
     {
         let mut end = pair_place(self.count());
         for (i, pair) in self.pairs.iter().enumerate() {
@@ -43,7 +43,7 @@ impl<'a> Headed<'a> {
             }
             end = offset + size;
         }
-        Ok(())
+        Ok(Laid { headed: *self })
     }
 
     // Each part has a length that the kind allows.
@@ -57,28 +57,20 @@ impl<'a> Headed<'a> {
         }
         Ok(())
     }
+}
 
+impl Laid<'_> {
     // All that stands in the parts is well formed.
     fn check_parts(&self) -> Result<(), Refusal>
-        requires { (i : ℕ) → i < length self.now.pairs.now → Placed self.now.bytes.now i }
-        ensures { Judged (λ _. (i : ℕ) → i < length self.now.pairs.now → PartFormed self.now.kind self.now.bytes.now i) (part_rule self.now.kind self.now.bytes.now) result }
+        ensures { Judged (λ _. (i : ℕ) → i < length self.now.headed.pairs.now → PartFormed self.now.headed.kind self.now.headed.bytes.now i) (part_rule self.now.headed.kind self.now.headed.bytes.now) result }
     {
-        for pair in self.pairs {
-            let span = Span::read(pair);
-            if let Some(k) = self.kind.first_ill_formed(self.part(span), self.count()) {
-                return Err(Refusal::at(Reason::PartIllFormed, span.offset + k));
+        let headed = self.headed;
+        for (i, pair) in headed.pairs.iter().enumerate() {
+            if let Some(k) = headed.kind.first_ill_formed(self.part(i), headed.count()) {
+                return Err(Refusal::at(Reason::PartIllFormed, Span::read(pair).offset + k));
             }
         }
         Ok(())
-    }
-
-    // The checks of what stands behind the header.
-    fn check(&self) -> Result<(), Refusal>
-        ensures { Judged (λ _. Valid self.now.kind self.now.bytes.now) (image_rules self.now.kind self.now.bytes.now) result }
-    {
-        self.check_pairs()?;
-        self.check_lengths()?;
-        self.check_parts()
     }
 }
 
@@ -88,6 +80,8 @@ pub(crate) fn check(bytes: &[u8], kind: Kind) -> Result<u16, Refusal>
     ensures octets { (i : ℕ) → byte_at bytes.now i < 256 }
 {
     let headed = Headed::read(bytes, kind)?;
-    headed.check()?;
+    let laid = headed.lay_out()?;
+    headed.check_lengths()?;
+    laid.check_parts()?;
     Ok(headed.count())
 }

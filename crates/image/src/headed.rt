@@ -1,7 +1,8 @@
 //! Bytes with the header and the pairs of an image.
-ghost use Rattle.std.specs.Prelude.{◌≡◌, ◌^◌, ◌+◌, ◌<◌, ◌≤◌, length, take, drop};
-ghost use Rattle.image.specs.Bytes.{kind_of, count_of, pair_at};
+ghost use Rattle.std.specs.Prelude.{◌≡◌, ℕ, ◌^◌, ◌<◌, ◌≤◌, length};
+ghost use Rattle.image.specs.Bytes.{kind_of, count_of, pair_at, part_of};
 ghost use Rattle.image.specs.Kinds.{kind_number, CountAllowed};
+ghost use Rattle.image.specs.Images.{Placed};
 ghost use Rattle.image.specs.Inner.{offset_in, size_in, Spelled};
 
 use crate::Kind;
@@ -25,15 +26,6 @@ impl<'a> Headed<'a> {
         ensures { result ≡ length self.now.pairs.now }
     {
         self.pairs.len() as u16
-    }
-
-    // The bytes of a part that lies inside.
-    pub(crate) fn part(&self, span: Span) -> &'a [u8]
-        requires { span.offset + span.size ≤ length self.now.bytes.now }
-        ensures { result.now ≡ take span.size (drop span.offset self.now.bytes.now) }
-    {
-        let Span { offset, size } = span;
-        &self.bytes[offset..offset + size]
     }
 }
 
@@ -68,5 +60,23 @@ impl Span {
             offset: u32::from_le_bytes(*offset) as usize,
             size: u32::from_le_bytes(*size) as usize,
         }
+    }
+}
+
+// Bytes with a header and pairs, whose parts lie in order and inside.
+#[derive(Clone, Copy)]
+pub(crate) struct Laid<'a> {
+    pub(crate) headed: Headed<'a>,
+    ghost placed: { ((i : ℕ) → i < length headed.pairs.now → Placed headed.bytes.now i) },
+}
+
+impl<'a> Laid<'a> {
+    // The bytes of part i.
+    pub(crate) fn part(&self, i: usize) -> &'a [u8]
+        requires { i < length self.now.headed.pairs.now }
+        ensures { result.now ≡ part_of self.now.headed.bytes.now i }
+    {
+        let Span { offset, size } = Span::read(&self.headed.pairs[i]);
+        &self.headed.bytes[offset..offset + size]
     }
 }

@@ -67,10 +67,8 @@ fn first_wrong_exit(part: &[u8], states: u16) -> Option<usize>
     let ([_, exits @ ..], _) = part.as_chunks::<4>() else {
         return None;
     };
-    for (j, exit) in exits.iter().enumerate() {
-        if !exit_stands(exit, states) {
-            return Some(4 + 4 * j);
-        }
-    }
-    None
+    exits
+        .iter()
+        .position(|exit| !exit_stands(exit, states))
+        .map(|j| 4 + 4 * j)
 }

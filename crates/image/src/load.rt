@@ -1,15 +1,20 @@
 //! What is loaded from an image.
-ghost use Rattle.std.specs.Prelude.{◌≡◌, vec_items, Ok, Err, Result};
+ghost use Rattle.std.specs.Prelude.{Ok, Err, Result};
+ghost use Rattle.refusal.specs.Rules.{Rules, Kept};
 ghost use Rattle.name.specs.Names.{Bytes};
 ghost use Rattle.image.specs.Images.{Valid};
+ghost use Rattle.image.specs.Opened.{Refused};
 ghost use Rattle.image.specs.declared.Kind.{Kind};
 ghost use Rattle.image.specs.declared.Rejected.{Rejected};
 
 use crate::{Kind, Rejected};
 
-/// What is made of the bytes of an image: of valid ones only, and others come back as they were.
+/// What is made of the bytes of an image that keep its rules; others come back as they were, refused by the first rule that they break.
 pub trait Load: Drop {
     ghost KIND: { Kind };
+
+    // the rules of its images, in the order of checking
+    ghost rules: { Bytes → Rules };
 
     // what loading these bytes may answer
     ghost loads: { Bytes → Result Self Rejected → Type 0 };
@@ -23,5 +28,7 @@ pub trait Load: Drop {
 
     ghost accepts: { (bs : Bytes) (loaded : Self) → loads bs (Ok loaded) → Valid KIND bs };
 
-    ghost returns: { (bs : Bytes) (back : Rejected) → loads bs (Err back) → vec_items back.bytes ≡ bs };
+    ghost keeps: { (bs : Bytes) (loaded : Self) → loads bs (Ok loaded) → Kept (rules bs) };
+
+    ghost refuses: { (bs : Bytes) (back : Rejected) → loads bs (Err back) → Refused (rules bs) bs back };
 }

@@ -1,12 +1,11 @@
 //! Opening an image, and reading its parts.
-ghost use Rattle.std.specs.Prelude.{◌≡◌, ℕ, ◌<◌, if◌then◌else◌, Some, None, nat_lt, length};
+ghost use Rattle.std.specs.Prelude.{◌≡◌, if◌then◌else◌, Some, None, nat_lt};
 ghost use Rattle.std.specs.Option.{option_map};
 ghost use Rattle.image.specs.Bytes.{count_of, part_of};
-ghost use Rattle.image.specs.Images.{Placed};
 ghost use Rattle.image.specs.Opened.{image_bytes, Opened};
 
 use crate::checks::check;
-use crate::headed::{Headed, Span, pairs_of};
+use crate::headed::{Headed, Laid, pairs_of};
 use crate::held::Image;
 use crate::{Kind, Rejected};
 
@@ -32,22 +31,23 @@ impl Image {
     pub fn part(&self, i: u16) -> Option<&[u8]>
         ensures { option_map (λ x. x.now) result ≡ (if nat_lt i (count_of (image_bytes self.now)) then Some (part_of (image_bytes self.now) i) else None) }
     {
-        let headed = self.headed();
-        let pair = headed.pairs.get(usize::from(i))?;
-        Some(headed.part(Span::read(pair)))
+        if i >= self.count {
+            return None;
+        }
+        Some(self.laid().part(usize::from(i)))
     }
 
-    // Its bytes with their header and pairs.
-    fn headed(&self) -> Headed<'_>
-        ensures bytes { result.bytes.now ≡ image_bytes self.now }
-        ensures placed { (i : ℕ) → i < length result.pairs.now → Placed result.bytes.now i }
+    // Its bytes, with their header and pairs, laid out.
+    fn laid(&self) -> Laid<'_>
+        ensures { result.headed.bytes.now ≡ image_bytes self.now }
     {
         let bytes = self.bytes.as_slice();
-        Headed {
+        let headed = Headed {
             bytes,
             kind: self.kind,
             pairs: pairs_of(bytes, self.count),
-        }
+        };
+        Laid { headed }
     }
 
     /// Its bytes; the image ends.

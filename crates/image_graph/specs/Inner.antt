@@ -29,11 +29,15 @@ abbrev pub ReadFrom : Bytes → Option OpenPart → Type 0
 ReadFrom part (Some held) = ReadAs part held
 ReadFrom part None = length part < 4
 
--- the part of state s, which is empty, or has a line and at most 1,024 exits
+-- how long the part of a state is: empty, or a line and at most 1,024 exits
+abbrev pub PartLength : ℕ → Type 0
+PartLength n = (n ≡ 0) ⊎ ((4 ≤ n) × (n ≤ 4100))
+
+-- the part of state s
 pub record PartAt (bs : Bytes) (s : ℕ) (part : Bytes) : Type 0 where
   pub there : s < count_of bs
   pub held : part ≡ part_of bs s
-  pub lined : (length part ≡ 0) ⊎ ((4 ≤ length part) × (length part ≤ 4100))
+  pub sized : PartLength (length part)
 
 -- the part of state s, or the refusal of a state that is not there
 abbrev pub PartOf : Bytes → ℕ → Result (Bor Bytes) Refusal → Type 0

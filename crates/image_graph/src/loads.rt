@@ -1,4 +1,5 @@
 //! Loading a graph from an image.
+ghost use Rattle.image.specs.Images.{image_rules};
 ghost use Rattle.image.specs.declared.Kind.TheVariants.{Graph};
 ghost use Rattle.image_graph.specs.Images.{Loaded};
 
@@ -8,11 +9,15 @@ use image::{Image, Kind, Load, Rejected};
 impl Load for ImageGraph {
     ghost KIND = { Graph };
 
+    ghost rules = { image_rules Graph };
+
     ghost loads = { Loaded };
 
     ghost accepts = { λ bs graph loaded. loaded.spelled.valid };
 
-    ghost returns = { λ bs back refused. refused.refused.returned };
+    ghost keeps = { λ bs graph loaded. loaded.kept };
+
+    ghost refuses = { λ bs back refused. refused.refused };
 
     const KIND: Kind = Kind::Graph;
 

@@ -22,10 +22,8 @@ impl ImageGraph {
     fn open_part(&self, s: u16) -> Result<OpenPart<'_>, Refusal>
         ensures { OpenOf (graph_bytes self.now) s result }
     {
-        let Some(open) = OpenPart::read(self.part(s)?) else {
-            return Err(Refusal::closed(Cause::empty_part(), usize::from(s), 0));
-        };
-        Ok(open)
+        let closed = Refusal::closed(Cause::empty_part(), usize::from(s), 0);
+        OpenPart::read(self.part(s)?).ok_or(closed)
     }
 }
 

@@ -5,31 +5,18 @@ use anyhow::anyhow;
 use events::EventList;
 use image::Load;
 use image_graph::ImageGraph;
-use report::{events_text, refused_text, state_texts, states_text};
+use report::{events_text, refused_text, states_text, texts_by_state};
 use std::process::ExitCode;
-use std::{env, fmt, fs, io};
+use std::{env, fs, io};
+use thiserror::Error;
 
 // Why nothing, or not all, is printed.
-#[derive(Drop)]
+#[derive(Debug, Drop, Error)]
 enum Fault {
-    // The file at this path cannot be read.
+    #[error("cannot read {0}: {1}")]
     Unreadable(String, io::Error),
-    Other(anyhow::Error),
-}
-
-impl fmt::Display for Fault {
-    fn fmt<W: fmt::Write>(&self, f: &mut fmt::Formatter<W>) -> fmt::Result {
-        match self {
-            Fault::Unreadable(path, why) => write!(f, "cannot read {path}: {why}"),
-            Fault::Other(why) => write!(f, "{why}"),
-        }
-    }
-}
-
-impl From<anyhow::Error> for Fault {
-    fn from(why: anyhow::Error) -> Fault {
-        Fault::Other(why)
-    }
+    #[error("{0}")]
+    Other(#[from] anyhow::Error),
 }
 
 // The paths of the two images.
@@ -75,7 +62,7 @@ fn print_build(rt: &HostRuntime, event_bytes: Vec<u8>, graph_bytes: Vec<u8>) -> 
         return Ok(());
     };
     rt.print(states_text(rt.alloc(), &graph)?)?;
-    for text in state_texts(rt.alloc(), &events, &graph) {
+    for text in texts_by_state(rt.alloc(), &events, &graph) {
         rt.print(text?)?;
     }
     Ok(())

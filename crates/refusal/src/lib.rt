@@ -8,7 +8,6 @@ ghost use Rattle.refusal.specs.Texts.{refusal_text};
 mod held;
 
 pub use crate::held::Cause;
-use std::error::Error;
 use std::fmt;
 
 /// Why something is refused. Each reason is defined by its number.
@@ -187,5 +186,3 @@ impl fmt::Display for Refusal {
         write!(f, "{number} {place} {depth}")
     }
 }
-
-impl Error for Refusal {}

@@ -1,8 +1,8 @@
 -- The texts that are printed of events, states and refusals. Assumes nothing.
-use Rattle.std.specs.Prelude.{ℕ, ◌+◌, cond, List, [], ◌∷◌, ◌++◌, length, codes, decimal, nat_lt, ◌≡◌, ◌<◌, ◌≤◌, Some, None, Option, Result, IfOk, String, string_bytes}
+use Rattle.std.specs.Prelude.{ℕ, ◌+◌, cond, List, [], ◌∷◌, ◌++◌, length, codes, decimal, nat_lt, ◌≡◌, ◌-◌, map, Some, None, Option, Result, IfOk, String, string_bytes}
 use Rattle.std.specs.declared.alloc.AllocError.{AllocError}
 use Rattle.std.specs.declared.alloc.Global.{Global}
-use Rattle.std.specs.List.{slice_get}
+use Rattle.std.specs.List.{slice_get, range_with_len}
 use Rattle.std.specs.Option.{unwrap_or}
 use Rattle.name.specs.Names.{Bytes}
 use Rattle.refusal.specs.Reasons.{number_of}
@@ -77,10 +77,16 @@ state_lines names s source_line (closed cause depth) = closed_line s cause.numbe
 abbrev pub state_text : List Bytes → Meaning → (ℕ → ℕ) → ℕ → Bytes
 state_text names G lines s = cond (nat_lt s G.size) (state_lines names s (lines s) (G.state s)) []
 
--- the text of state s, and what state is next; nothing where no state is left
-abbrev pub NextText : List Bytes → Meaning → (ℕ → ℕ) → ℕ → Option (Result (String Global) AllocError) → ℕ → Type 0
-NextText names G lines s (Some text) next = (s < G.size) × (next ≡ s + 1) × IfOk text (λ t. string_bytes t ≡ state_text names G lines s)
-NextText names G lines s None next = (G.size ≤ s) × (next ≡ s)
+-- the texts of the states from s on
+abbrev pub texts_from : ℕ → List Bytes → Meaning → (ℕ → ℕ) → List Bytes
+texts_from s names G lines = map (state_text names G lines) (range_with_len s (G.size - s))
+
+-- what comes next of these texts, and which are left then: the first of them, or nothing where there is none
+abbrev pub NextText : List Bytes → Option (Result (String Global) AllocError) → List Bytes → Type 0
+NextText (first ∷ rest) (Some text) left = (left ≡ rest) × IfOk text (λ t. string_bytes t ≡ first)
+NextText (first ∷ rest) None left = ⊥
+NextText [] (Some text) left = ⊥
+NextText [] None left = left ≡ []
 
 -- what is refused, the number of the reason, and the place
 abbrev pub refused_text : Kind → Refusal → Bytes

@@ -1,16 +1,17 @@
 //! The texts of all states of a graph, one after another.
-ghost use Rattle.std.specs.Prelude.{◌≡◌, ◌-◌};
+ghost use Rattle.std.specs.Prelude.{◌≡◌, length};
 ghost use Rattle.std.specs.Iterator.{at_most};
-ghost use Rattle.report.specs.Texts.{NextText};
+ghost use Rattle.report.specs.Texts.{NextText, texts_from};
 
 use crate::states::state_text;
 use events::EventList;
 use graph::{Exits, Graph};
 use std::alloc::{AllocError, Global};
+use std::marker::Model;
 
-/// The texts of the states that are left, in the order of their numbers.
+/// The texts of the states that are left, in the order of their numbers. A contract sees the list of them.
 #[derive(Drop)]
-pub struct StateTexts<'a, G> {
+pub struct StateTexts<'a, G: Graph> {
     heap: Global,
     events: &'a EventList,
     graph: &'a G,
@@ -18,15 +19,23 @@ pub struct StateTexts<'a, G> {
     next: u16,
 }
 
+impl<'a, G: Graph> Model for StateTexts<'a, G> {
+    ghost use Rattle.std.specs.Prelude.{List};
+    ghost use Rattle.name.specs.Names.{Bytes};
+    ghost use Rattle.report.specs.Texts.{texts_from};
+
+    ghost Value = { List Bytes };
+
+    ghost view = { λ texts. texts_from texts.next texts.events.now (G.meaning texts.graph.now) (G.lines texts.graph.now) };
+}
+
 /// The text of each state of a graph, from state 0 on.
-pub fn state_texts<'a, G: Graph>(
+pub fn texts_by_state<'a, G: Graph>(
     heap: Global,
     events: &'a EventList,
     graph: &'a G,
 ) -> StateTexts<'a, G>
-    ensures events { result.events.now ≡ events.now }
-    ensures graph { result.graph.now ≡ graph.now }
-    ensures next { result.next ≡ 0 }
+    ensures { result ≡ texts_from 0 events.now (G.meaning graph.now) (G.lines graph.now) }
 {
     StateTexts {
         heap,
@@ -40,9 +49,9 @@ pub fn state_texts<'a, G: Graph>(
 impl<'a, G: Graph> Iterator for StateTexts<'a, G> {
     type Item = Result<String, AllocError>;
 
-    ghost next_gives = { λ before text after. (after.events.now ≡ before.events.now) × (after.graph.now ≡ before.graph.now) × NextText before.events.now (G.meaning before.graph.now) (G.lines before.graph.now) before.next text after.next };
+    ghost next_gives = { NextText };
 
-    ghost remaining = { λ texts. at_most ((G.meaning texts.graph.now).size - texts.next) };
+    ghost remaining = { λ texts. at_most (length texts) };
 
     fn next(&mut self) -> Option<Result<String, AllocError>> {
         if self.next >= self.graph.states() {

@@ -6,7 +6,7 @@ mod names;
 mod refused;
 mod states;
 
-pub use crate::all_states::{StateTexts, state_texts};
+pub use crate::all_states::{StateTexts, texts_by_state};
 pub use crate::names::events_text;
 pub use crate::refused::refused_text;
 pub use crate::states::{state_text, states_text};

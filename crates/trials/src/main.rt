@@ -13,7 +13,7 @@ use anyhow::anyhow;
 use events::EventList;
 use image::Load;
 use image_graph::ImageGraph;
-use report::{events_text, state_texts, states_text};
+use report::{events_text, states_text, texts_by_state};
 use std::alloc::{AllocError, Global};
 use std::io::{BufRead, BufReader};
 
@@ -38,7 +38,7 @@ fn decoded(heap: Global, digits: &[u8]) -> Result<Vec<u8>, AllocError> {
 // The number of states, and the text of each.
 fn print_states(rt: &HostRuntime, list: &EventList, graph: &ImageGraph) -> anyhow::Result<()> {
     rt.print(states_text(rt.alloc(), graph)?)?;
-    for text in state_texts(rt.alloc(), list, graph) {
+    for text in texts_by_state(rt.alloc(), list, graph) {
         rt.print(text?)?;
     }
     Ok(())

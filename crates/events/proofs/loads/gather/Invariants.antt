@@ -1,7 +1,7 @@
 use Rattle.std.proofs.Common.{map}
 use Rattle.name.specs.Held.{name_bytes}
 use Rattle.image.specs.Opened.{image_bytes}
-use Rattle.events.proofs.Gathering.{Sofar}
+use Rattle.events.specs.Inner.{Sofar}
 use Rattle.events.proofs.loads.gather.Given as goal
 
 abbrev pub invariant-loop-i : goal.invariant-loop-i
