@@ -40,10 +40,10 @@ impl Kind {
     }
 }
 
-/// Its word.
 impl fmt::Display for Kind {
     ghost output = { λ kind. Some (kind_word kind) };
 
+    /// Its word, `events` or `graph`.
     fn fmt<W: fmt::Write>(&self, f: &mut fmt::Formatter<W>) -> fmt::Result {
         f.write_str(match self {
             Kind::Events => "events",

@@ -80,6 +80,7 @@ impl Default for Name {
 impl fmt::Display for Name {
     ghost output = { λ name. Some (name_bytes name) };
 
+    /// Its text.
     fn fmt<W: fmt::Write>(&self, f: &mut fmt::Formatter<W>) -> fmt::Result {
         f.write_str(self.as_str())
     }

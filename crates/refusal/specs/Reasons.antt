@@ -54,7 +54,7 @@ refused_at why where_it_is = record { reason = why; place = where_it_is; depth =
 abbrev pub closed_at : Cause → ℕ → ℕ → Refusal
 closed_at cause s layers = record { reason = Closed cause; place = s; depth = layers }
 
--- the cause of this number, which is there exactly for 31 to 39
+-- the cause of this number, which is there exactly for 31 to 39; of any other the error holds the number
 abbrev pub CauseOf : ℕ → Result Cause NoCause → Type 0
 CauseOf n (Ok cause) = cause.number ≡ n
 CauseOf n (Err no_cause) = (no_cause.0 ≡ n) × (31 ≤ n → n ≤ 39 → ⊥)
