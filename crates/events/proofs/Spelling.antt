@@ -1,9 +1,10 @@
 -- What an image of names settles. Assumes nothing.
 use Rattle.std.proofs.Common.{◌≡◌, List, [], length, Ok, sym, ◌∙◌, arith}
 use Rattle.std.proofs.lemmas.List.{ext_get_or}
-use Rattle.refusal.specs.Rules.{no_more, rule, Kept}
+use Rattle.refusal.specs.Rules.{no_more, rule, Kept, FirstBroken}
 use Rattle.refusal.specs.declared.Reason.TheVariants.{NameRepeated}
-use Rattle.refusal.proofs.Order.{kept_both}
+use Rattle.refusal.specs.declared.Refusal.{Refusal}
+use Rattle.refusal.proofs.Order.{kept_both, kept_unbroken}
 use Rattle.name.specs.Names.{Bytes}
 use Rattle.image.specs.Images.{Valid, AtPair, image_rules}
 use Rattle.image.specs.declared.Kind.TheVariants.{Events}
@@ -37,3 +38,7 @@ pub loaded_list : (bs : Bytes) (names : List Bytes) → Valid Events bs → Gath
 loaded_list bs names v g =
     let spelled : EventImage bs names = record { valid = v; counted = g.counted; spelled = g.spelled; distinct = g.distinct } in
     record { spelled = spelled; only = λ others e. one_list bs others names e spelled; kept = image_kept bs names spelled }
+
+-- bytes that break a rule spell no names
+pub spells_none : (bs : Bytes) (r : Refusal) → FirstBroken (event_rules bs) r → (names : List Bytes) → EventImage bs names → ⊥
+spells_none bs r b names e = kept_unbroken (event_rules bs) r (image_kept bs names e) b

@@ -14,6 +14,22 @@ use image::{Image, Kind, Load, Rejected, pair_place};
 use name::Name;
 use refusal::{Reason, Refusal};
 
+impl EventList {
+    /// The event list that the bytes are an image of, or the bytes back with the first rule that they break.
+    pub fn load(bytes: Vec<u8>) -> Result<EventList, Rejected>
+        ensures { Loaded bytes.items result }
+    {
+        let image = Image::open(bytes, Kind::Events)?;
+        match gather(&image) {
+            Ok(list) => Ok(list),
+            Err(why) => Err(Rejected {
+                why,
+                bytes: image.into_bytes(),
+            }),
+        }
+    }
+}
+
 impl Load for EventList {
     ghost KIND = { Events };
 
@@ -29,16 +45,8 @@ impl Load for EventList {
 
     const KIND: Kind = Kind::Events;
 
-    /// The event list that the bytes are an image of, or the bytes back with the first rule that they break.
     fn load(bytes: Vec<u8>) -> Result<EventList, Rejected> {
-        let image = Image::open(bytes, Kind::Events)?;
-        match gather(&image) {
-            Ok(list) => Ok(list),
-            Err(why) => Err(Rejected {
-                why,
-                bytes: image.into_bytes(),
-            }),
-        }
+        EventList::load(bytes)
     }
 }
 

@@ -27,14 +27,16 @@ impl EventList {
 
     /// The name of an event, or none where it has none.
     pub fn name(&self, event: u8) -> Option<Name>
-        ensures { option_map name_bytes result ≡ slice_get self.now event }
+        ensures name { option_map name_bytes result ≡ slice_get self.now event }
+        ensures listed { Listed self.now }
     {
         self.names().get(usize::from(event)).copied()
     }
 
     /// The event of a name, or none where it is not listed.
     pub fn find(&self, word: &[u8]) -> Option<u8>
-        ensures { EventOf self.now word.now result }
+        ensures event { EventOf self.now word.now result }
+        ensures listed { Listed self.now }
     {
         position(self.names.as_slice(), word).map(|event| event as u8)
     }

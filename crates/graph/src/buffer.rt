@@ -2,8 +2,8 @@
 ghost use Rattle.std.specs.Prelude.{◌≡◌, ◌≤◌, [], ◌∷◌, ◌++◌, length, take};
 ghost use Rattle.std.specs.List.{slice_get};
 
+use crate::held::MOST;
 use crate::{Exit, Exits};
-use arrayvec::ArrayVec;
 
 impl Exits {
     /// No exits.
@@ -11,7 +11,8 @@ impl Exits {
         ensures { result ≡ [] }
     {
         Exits {
-            entries: ArrayVec::new(),
+            entries: [Exit::default(); MOST],
+            count: 0,
         }
     }
 
@@ -20,12 +21,13 @@ impl Exits {
         ensures count { result ≡ length self.now }
         ensures few { length self.now ≤ 1024 }
     {
-        self.entries.len()
+        self.as_slice().len()
     }
 
-    /// Exit k, or none where there are k or fewer.
+    /// Exit k, or none where there are k or fewer; there are at most 1,024.
     pub fn get(&self, k: usize) -> Option<Exit>
-        ensures { result ≡ slice_get self.now k }
+        ensures exit { result ≡ slice_get self.now k }
+        ensures few { length self.now ≤ 1024 }
     {
         self.as_slice().get(k).copied()
     }
@@ -35,20 +37,24 @@ impl Exits {
         ensures exits { result.now ≡ self.now }
         ensures few { length result.now ≤ 1024 }
     {
-        self.entries.as_slice()
+        &self.entries[0..self.count]
     }
 
     /// Leaves none.
     pub fn clear(&mut self)
         ensures { self.new ≡ [] }
     {
-        self.entries.clear();
+        self.count = 0;
     }
 
     /// One more at the end. Past 1,024 nothing is taken in.
     pub fn push(&mut self, exit: Exit)
         ensures { self.new ≡ take 1024 (self.old ++ (exit ∷ [])) }
     {
-        let _ = self.entries.try_push(exit);
+        if self.count >= MOST {
+            return;
+        }
+        self.entries[self.count] = exit;
+        self.count += 1;
     }
 }

@@ -1,22 +1,24 @@
 //! The exits of one state, as a graph hands them out.
 use crate::Exit;
-use arrayvec::ArrayVec;
 use std::marker::Model;
 
 // The most exits that a state has.
-const MOST: usize = 1024;
+pub(crate) const MOST: usize = 1024;
 
-/// At most 1,024 exits in order. A contract sees the list of them.
+/// At most 1,024 exits in order: the first `count` of the entries. A contract sees the list of them.
 #[derive(Drop)]
 pub struct Exits {
-    pub(crate) entries: ArrayVec<Exit, MOST>,
+    pub(crate) entries: [Exit; MOST],
+    pub(crate) count: usize,
 }
 
 impl Model for Exits {
-    ghost use Rattle.std.specs.Prelude.{List};
+    ghost use Rattle.std.specs.Prelude.{◌≡◌, ◌≤◌, List, length, take};
     ghost use Rattle.graph.specs.declared.Exit.{Exit};
 
     ghost Value = { List Exit };
 
-    ghost view = { λ held. held.entries.items };
+    ghost view = { λ held. take held.count held.entries };
+
+    ghost invariant = { λ held. (held.count ≤ 1024) × (length held.entries ≡ 1024) };
 }

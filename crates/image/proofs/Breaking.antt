@@ -1,5 +1,5 @@
 -- The first place where a rule of an image is broken. Assumes nothing.
-use Rattle.std.proofs.Common.{◌≡◌, ℕ, zero, suc, ◌+◌, ◌<◌, ◌≤◌, length, sym, refl, ap, subst, inl, ⊎_elim, arith}
+use Rattle.std.proofs.Common.{◌≡◌, ℕ, zero, suc, ◌+◌, ◌*◌, ◌/◌, ◌<◌, ◌≤◌, length, sym, refl, ap, subst, inl, ⊎_elim, arith}
 use Rattle.std.proofs.lemmas.List.{length-take-le, length-drop}
 use Rattle.std.proofs.lemmas.Bool.{cases_lt}
 use Rattle.refusal.specs.Reasons.{refused_at}
@@ -50,3 +50,7 @@ module _ (bs : Bytes) (placed : (i : ℕ) → i < count_of bs → Placed bs i) w
             (cases_lt b.0 i);
         named = refl;
       })
+
+-- an exit stands at four times its number, which is from 1 on
+pub exit_number : (part : Bytes) (k : ℕ) → ItemAt Graph part k → (j : ℕ) × (k ≡ 4 * j) × (1 ≤ j) × (j < length part / 4)
+exit_number part k item = (k / 4, omega (arith, item.2), omega (arith, item.0), omega (arith, item.1))

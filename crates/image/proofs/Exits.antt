@@ -9,11 +9,12 @@ use Rattle.image.specs.Bytes.{byte_at}
 use Rattle.image.specs.Kinds.{ItemAt, WellFormed}
 use Rattle.image.specs.Inner.{FirstIllFormed}
 use Rattle.image.specs.declared.Kind.TheVariants.{Graph}
+use Rattle.image.proofs.Breaking.{exit_number}
 use Rattle.image.proofs.Chunks.{get_or-first_chunks, get_or_in_piece}
 
 -- an exit stands behind the line, a number of exits on
-exit_number : (part : Bytes) (k : ℕ) → ItemAt Graph part k → (j : ℕ) × (k ≡ 4 + 4 * j) × (j < length part / 4 - 1)
-exit_number part k item = (k / 4 - 1, omega (arith, item.0, item.2), omega (arith, item.0, item.1, item.2))
+exit_behind : (part : Bytes) (k : ℕ) → ItemAt Graph part k → (j : ℕ) × (k ≡ 4 + 4 * j) × (j < length part / 4 - 1)
+exit_behind part k item = let e = exit_number part k item in (e.0 - 1, omega (arith, e.1, e.2), omega (arith, e.2, e.3))
 
 module _ (part : Bytes) (pieces : List Bytes) (cut : pieces ≡ first_chunks 4 (length part / 4) part) (many : length pieces ≡ length part / 4) where
   -- byte i of piece k, of which the first is the line
@@ -56,7 +57,7 @@ module _ (part : Bytes) (pieces : List Bytes) (cut : pieces ≡ first_chunks 4 (
   -- where the first pieces are formed, so are the exits up to there
   exits_formed : (n j : ℕ) → ((i : ℕ) → i < j → WellFormed Graph n (get_or exits i []) 0) → (k : ℕ) → k < 4 + 4 * j → ItemAt Graph part k → WellFormed Graph n part k
   exits_formed n j formed k h item =
-      let e = exit_number part k item in
+      let e = exit_behind part k item in
       subst (WellFormed Graph n part) (sym e.1) (exit_formed n e.0 e.2 (formed e.0 (omega (arith, e.1))))
 
   -- the first ill-formed piece is the first ill-formed exit

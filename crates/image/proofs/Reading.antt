@@ -5,10 +5,11 @@ use denote.Struct.Props.{props}
 use Rattle.std.proofs.lemmas.List.{get_or-take, get_or-drop, get_or_past, length-take}
 use Rattle.std.proofs.lemmas.Bool.{cases_lt}
 use Rattle.name.specs.Names.{Bytes, NameLength, Formed}
-use Rattle.image.specs.Bytes.{byte_at, kind_of, count_of, offset_of, size_of, part_of}
+use Rattle.image.specs.Bytes.{byte_at, kind_of, count_of, pair_at, offset_of, size_of, part_of}
 use Rattle.image.specs.Kinds.{kind_number, CountAllowed, ItemAt, WellFormed}
 use Rattle.image.specs.Images.{Placed, Valid}
 use Rattle.image.specs.Opened.{image_bytes}
+use Rattle.image.specs.declared.Kind.{Kind}
 use Rattle.image.specs.declared.Kind.TheVariants.{Events, Graph}
 use Rattle.image.specs.declared.held.Image.{Image}
 use Rattle.image.proofs.Breaking.{part_length}
@@ -16,6 +17,10 @@ use Rattle.image.proofs.Breaking.{part_length}
 -- its kind stands in its header
 pub held_known : (image : Image) → kind_of (image_bytes image) ≡ kind_number image.kind
 held_known image = ∥∥₁_elim image.valid (hlevel props) (λ v. v.known)
+
+-- all its pairs are there
+pub held_paired : (image : Image) → pair_at (count_of (image_bytes image)) ≤ length (image_bytes image)
+held_paired image = ∥∥₁_elim image.valid (hlevel props) (λ v. v.paired)
 
 -- each part is placed
 pub held_placed : (image : Image) (i : ℕ) → i < image.count → Placed (image_bytes image) i
@@ -26,6 +31,11 @@ pub name_formed : (bs : Bytes) → Valid Events bs → (i : ℕ) → i < count_o
 name_formed bs v i h =
     let l = part_length bs v.placed i h in
     record { sized = subst NameLength (sym l) (v.sized i h); spelled = λ k m. v.formed i h k m }
+
+-- an image of kind 2 is one of a graph
+pub is_graph : (kind : Kind) → kind_number kind ≡ 2 → kind ≡ Graph
+is_graph Events e = absurd (omega arith)
+is_graph Graph e = refl
 
 -- an event list has 1 to 64 parts
 pub held_events : (image : Image) → image.kind ≡ Events → CountAllowed Events (count_of (image_bytes image))
@@ -62,6 +72,14 @@ part_there n i p q e = by (ltb i n) e
     by : (b : Bool) → Some p ≡ cond b (Some q) None → (b ≡ true) × (p ≡ q)
     by true f = (refl, cc)
     by false f = absurd (cc)
+
+-- there is no part i
+pub part_missing : (n i : ℕ) (q : Bytes) → None ≡ cond (ltb i n) (Some q) None → ltb i n ≡ false
+part_missing n i q e = by (ltb i n) e
+  where
+    by : (b : Bool) → None ≡ cond b (Some q) None → b ≡ false
+    by true f = absurd (cc)
+    by false f = refl
 
 -- a byte of a part is a byte
 pub part_octets : (bs : Bytes) → ((i : ℕ) → byte_at bs i < 256) → (i k : ℕ) → byte_at (part_of bs i) k < 256

@@ -6,6 +6,16 @@ ghost use Rattle.image_graph.specs.Images.{Loaded};
 use crate::held::ImageGraph;
 use image::{Image, Kind, Load, Rejected};
 
+impl ImageGraph {
+    /// The graph that the bytes are an image of, or the bytes back with the first rule that they break.
+    pub fn load(bytes: Vec<u8>) -> Result<ImageGraph, Rejected>
+        ensures { Loaded bytes.items result }
+    {
+        let image = Image::open(bytes, Kind::Graph)?;
+        Ok(ImageGraph { image })
+    }
+}
+
 impl Load for ImageGraph {
     ghost KIND = { Graph };
 
@@ -21,9 +31,7 @@ impl Load for ImageGraph {
 
     const KIND: Kind = Kind::Graph;
 
-    /// The graph that the bytes are an image of, or the bytes back with the first rule that they break.
     fn load(bytes: Vec<u8>) -> Result<ImageGraph, Rejected> {
-        let image = Image::open(bytes, Kind::Graph)?;
-        Ok(ImageGraph { image })
+        ImageGraph::load(bytes)
     }
 }

@@ -2,10 +2,8 @@
 ghost use Rattle.std.specs.Prelude.{◌≡◌, ℕ, ◌<◌, true, length, slice_index};
 ghost use Rattle.name.specs.Names.{in_name, NameLength};
 
+use crate::LONGEST;
 use arrayvec::ArrayString;
-
-/// The longest name, in bytes.
-pub const LONGEST: usize = 16;
 
 /// A small letter followed by small letters, digits or underscores, 1 to 16 bytes.
 #[derive(Clone, Copy, PartialEq, Eq, Debug)]

@@ -7,10 +7,13 @@ ghost use Rattle.name.specs.Held.{name_bytes, NameOf};
 
 mod held;
 
-pub use crate::held::{LONGEST, Name};
+pub use crate::held::Name;
 use arrayvec::ArrayString;
 use std::fmt;
 use std::str::from_utf8;
+
+/// The longest name, in bytes.
+pub const LONGEST: usize = 16;
 
 /// The place of the first byte that may not stand where it does.
 pub fn first_wrong(word: &[u8]) -> Option<usize>

@@ -1,21 +1,20 @@
-use Rattle.std.proofs.Common.{◌≡◌, ℕ, ◌<◌, List, [], ◌∷◌, ◌++◌, length, take, Ok, Err, Result, OnOk, OnErr, IsOk, ◌↔◌, refl, sym, ◌∙◌, subst, ap, arith}
-use Rattle.std.proofs.lemmas.List.{length_push, take_all, take_at}
-use Rattle.std.proofs.lemmas.Result.{on_err_weaker}
+use Rattle.std.proofs.Common.{◌≡◌, [], ◌∷◌, ◌++◌, length, take, sym, ◌∙◌, subst, arith, ◌+◌, slice_set}
+use Rattle.std.proofs.lemmas.List.{length-take-le, length_push, take_all, take_at, take_more_set}
 use Rattle.graph.proofs.held.Exits.push.Goals as goal
 
--- what is pushed is taken in where there is room, and else nothing is
-taken : {X E : Type 0} (r : Result (Unit {0}) E) (most : ℕ) (old new : List X) (x : X) → (IsOk r ↔ (length old < most)) → OnOk r (new ≡ old ++ x ∷ []) → OnErr r (new ≡ old) → OnErr r (length old ≡ most) → new ≡ take most (old ++ x ∷ [])
-taken (Ok u) most old new x room pushed kept full =
-    let more = length_push old x in
-    let l : length old < most = room.0 refl in
-    pushed ∙ sym (take_all most (old ++ x ∷ []) (omega arith))
-taken (Err e) most old new x room pushed kept full = kept ∙ sym (take_at old (x ∷ []) most full)
+pub returns-then-self-ge-MOST : goal.returns-then-self-ge-MOST
+returns-then-self-ge-MOST c =
+    let x = c.self.inside in
+    let l = length-take-le x.count x.entries (omega (arith, c.self.invariant.0, c.self.invariant.1)) in
+    subst (λ xs. xs ≡ take 1024 (xs ++ c.args.exit ∷ [])) c.self.view_is
+    (sym (take_at (take x.count x.entries) (c.args.exit ∷ []) 1024 (omega (arith, c.self.invariant.0))))
 
 pub returns : goal.returns
 returns c =
-    let r = c.try_push.result in
-    let done = c.try_push.ensures in
-    let old = c.self.inside.entries.items in
-    let new = c.try_push.new.self.items in
-    subst (λ xs. new ≡ take 1024 (xs ++ c.args.exit ∷ [])) c.self.view_is
-    (taken r 1024 old new c.args.exit done.variant done.ok (on_err_weaker r (ap (λ v. v.items)) done.err) done.full)
+    let x = c.self.inside in
+    let held = take x.count x.entries in
+    let l = length-take-le x.count x.entries (omega (arith, c.self.invariant.0, c.self.invariant.1)) in
+    let more = length_push held c.args.exit in
+    subst (λ xs. take (x.count + 1) (slice_set x.entries x.count c.args.exit) ≡ take 1024 (xs ++ c.args.exit ∷ [])) c.self.view_is
+    (take_more_set x.entries x.count c.args.exit (omega (arith, c.self.invariant.1))
+    ∙ sym (take_all 1024 (held ++ (c.args.exit ∷ [])) (omega arith)))

@@ -1,7 +1,7 @@
 use Rattle.std.proofs.Common.{Ok, vec_items, subst}
 use Rattle.events.specs.Inner.{Gathered}
 use Rattle.events.proofs.Spelling.{loaded_list}
-use Rattle.events.proofs.loads.EventListLoad.load.Goals as goal
+use Rattle.events.proofs.held.EventList.load.Goals as goal
 
 pub returns-in-Ok : goal.returns-in-Ok
 returns-in-Ok c =
