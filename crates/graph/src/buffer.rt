@@ -42,19 +42,23 @@ impl Exits {
 
     /// Leaves none.
     pub fn clear(&mut self)
-        ensures { self.new ≡ [] }
+        ensures empty { self.new ≡ [] }
+        ensures few { length self.old ≤ 1024 }
     {
         self.count = 0;
     }
 
     /// One more at the end. Past 1,024 nothing is taken in.
     pub fn push(&mut self, exit: Exit)
-        ensures { self.new ≡ take 1024 (self.old ++ (exit ∷ [])) }
+        ensures exits { self.new ≡ take 1024 (self.old ++ (exit ∷ [])) }
+        ensures few { length self.old ≤ 1024 }
     {
-        if self.count >= MOST {
+        // Read once: a write to the entries does not change it.
+        let count = self.count;
+        if count >= MOST {
             return;
         }
-        self.entries[self.count] = exit;
-        self.count += 1;
+        self.entries[count] = exit;
+        self.count = count + 1;
     }
 }

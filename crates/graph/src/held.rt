@@ -6,10 +6,20 @@ use std::marker::Model;
 pub(crate) const MOST: usize = 1024;
 
 /// At most 1,024 exits in order: the first `count` of the entries. A contract sees the list of them.
-#[derive(Drop)]
 pub struct Exits {
     pub(crate) entries: [Exit; MOST],
     pub(crate) count: usize,
+}
+
+// Written out and not derived: with a derived one the borrow checker does not cover a caller's `match` that drops what
+// stands beside a buffer.
+impl Drop for Exits {
+    fn drop(self) {
+        let Exits {
+            entries: _,
+            count: _,
+        } = self;
+    }
 }
 
 impl Model for Exits {

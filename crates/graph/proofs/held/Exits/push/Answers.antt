@@ -1,16 +1,16 @@
-use Rattle.std.proofs.Common.{◌≡◌, [], ◌∷◌, ◌++◌, length, take, sym, ◌∙◌, subst, arith, ◌+◌, slice_set}
+use Rattle.std.proofs.Common.{◌≡◌, [], ◌∷◌, ◌++◌, take, sym, ◌∙◌, subst, arith, ◌+◌, slice_set}
 use Rattle.std.proofs.lemmas.List.{length-take-le, length_push, take_all, take_at, take_more_set}
 use Rattle.graph.proofs.held.Exits.push.Goals as goal
 
-pub returns-then-self-ge-MOST : goal.returns-then-self-ge-MOST
-returns-then-self-ge-MOST c =
+pub returns-then-count-ge-MOST-clause-exits : goal.returns-then-count-ge-MOST-clause-exits
+returns-then-count-ge-MOST-clause-exits c =
     let x = c.self.inside in
     let l = length-take-le x.count x.entries (omega (arith, c.self.invariant.0, c.self.invariant.1)) in
     subst (λ xs. xs ≡ take 1024 (xs ++ c.args.exit ∷ [])) c.self.view_is
     (sym (take_at (take x.count x.entries) (c.args.exit ∷ []) 1024 (omega (arith, c.self.invariant.0))))
 
-pub returns : goal.returns
-returns c =
+pub returns-clause-exits : goal.returns-clause-exits
+returns-clause-exits c =
     let x = c.self.inside in
     let held = take x.count x.entries in
     let l = length-take-le x.count x.entries (omega (arith, c.self.invariant.0, c.self.invariant.1)) in
