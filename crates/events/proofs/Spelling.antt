@@ -11,6 +11,7 @@ use Rattle.image.specs.declared.Kind.TheVariants.{Events}
 use Rattle.image.proofs.Keeping.{valid_kept}
 use Rattle.events.specs.Images.{EventImage, Repeated, event_rules, AcceptedList}
 use Rattle.events.specs.Inner.{Gathered}
+use Rattle.events.specs.declared.held.EventList.{EventList}
 
 -- an image has one list of names
 pub one_list : (bs : Bytes) (names others : List Bytes) → EventImage bs names → EventImage bs others → names ≡ others
@@ -33,11 +34,11 @@ image_kept bs names e =
       tt,
     )
 
--- the names that were gathered from a valid image
-pub loaded_list : (bs : Bytes) (names : List Bytes) → Valid Events bs → Gathered bs (Ok names) → AcceptedList bs names
-loaded_list bs names v g =
-    let spelled : EventImage bs names = record { valid = v; counted = g.counted; spelled = g.spelled; distinct = g.distinct } in
-    record { spelled = spelled; only = λ others e. one_list bs others names e spelled; kept = image_kept bs names spelled }
+-- the list that was gathered from a valid image
+pub loaded_list : (bs : Bytes) (list : EventList) → Valid Events bs → Gathered bs (Ok list) → AcceptedList bs list
+loaded_list bs list v g =
+    let spelled : EventImage bs list.names = record { valid = v; counted = g.counted; spelled = g.spelled; distinct = g.distinct } in
+    record { spelled = spelled; only = λ others e. one_list bs others list.names e spelled; kept = image_kept bs list.names spelled }
 
 -- bytes that break a rule spell no names
 pub spells_none : (bs : Bytes) (r : Refusal) → FirstBroken (event_rules bs) r → (names : List Bytes) → EventImage bs names → ⊥

@@ -28,8 +28,8 @@ event_rules bs = image_rules Events bs and_then rule NameRepeated (AtPair bs (Re
 
 -- the list holds the names that the bytes spell, and they spell no others; no rule is broken
 pub record AcceptedList (bs : Bytes) (list : EventList) : Type 0 where
-  pub spelled : EventImage bs list
-  pub only : (names : List Bytes) → EventImage bs names → names ≡ list
+  pub spelled : EventImage bs list.names
+  pub only : (names : List Bytes) → EventImage bs names → names ≡ list.names
   pub kept : Kept (event_rules bs)
 
 -- the bytes come back, refused by the first rule that they break; they spell no names

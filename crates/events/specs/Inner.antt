@@ -18,5 +18,5 @@ pub record Sofar (bs : Bytes) (names : List Bytes) (n : ℕ) : Type 0 where
 
 -- the list has the names of all parts, or a name is repeated
 abbrev pub Gathered : Bytes → Result EventList Refusal → Type 0
-Gathered bs (Ok list) = Sofar bs list (count_of bs)
+Gathered bs (Ok list) = Sofar bs list.names (count_of bs)
 Gathered bs (Err why) = FirstBroken (rule NameRepeated (AtPair bs (Repeated bs)) no_more) why

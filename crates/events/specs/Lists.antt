@@ -12,6 +12,11 @@ pub record Listed (names : List Bytes) : Type 0 where
   pub formed : (i : ℕ) → i < length names → Formed (slice_index_or names i [])
   pub distinct : Distinct names
 
+-- the names of the events, by number
+pub record EventNames : Type 0 where
+  pub names : List Bytes
+  pub listed : Listed names
+
 -- the event of a name is its place in the list
 abbrev pub EventOf : List Bytes → Bytes → Option ℕ → Type 0
 EventOf names w (Some k) = (k < length names) × (slice_index_or names k [] ≡ w)

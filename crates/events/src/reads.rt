@@ -11,32 +11,30 @@ use name::Name;
 impl EventList {
     /// How many events there are, 1 to 64; no name is listed twice.
     pub fn len(&self) -> usize
-        ensures count { result ≡ length self.now }
-        ensures listed { Listed self.now }
+        ensures count { result ≡ length self.now.names }
+        ensures listed { Listed self.now.names }
     {
         self.names.len()
     }
 
     /// The names, by number.
     pub fn names(&self) -> &[Name]
-        ensures names { map name_bytes result.now ≡ self.now }
-        ensures listed { Listed self.now }
+        ensures names { map name_bytes result.now ≡ self.now.names }
+        ensures listed { Listed self.now.names }
     {
         self.names.as_slice()
     }
 
     /// The name of an event, or none where it has none.
     pub fn name(&self, event: u8) -> Option<Name>
-        ensures name { option_map name_bytes result ≡ slice_get self.now event }
-        ensures listed { Listed self.now }
+        ensures { option_map name_bytes result ≡ slice_get self.now.names event }
     {
         self.names().get(usize::from(event)).copied()
     }
 
     /// The event of a name, or none where it is not listed.
     pub fn find(&self, word: &[u8]) -> Option<u8>
-        ensures event { EventOf self.now word.now result }
-        ensures listed { Listed self.now }
+        ensures { EventOf self.now.names word.now result }
     {
         position(self.names.as_slice(), word).map(|event| event as u8)
     }

@@ -8,7 +8,7 @@ use crate::{Exit, Exits};
 impl Exits {
     /// No exits.
     pub fn new() -> Exits
-        ensures { result ≡ [] }
+        ensures { result.exits ≡ [] }
     {
         Exits {
             entries: [Exit::default(); MOST],
@@ -18,23 +18,22 @@ impl Exits {
 
     /// How many there are, at most 1,024.
     pub fn len(&self) -> usize
-        ensures count { result ≡ length self.now }
-        ensures few { length self.now ≤ 1024 }
+        ensures count { result ≡ length self.now.exits }
+        ensures few { length self.now.exits ≤ 1024 }
     {
         self.as_slice().len()
     }
 
-    /// Exit k, or none where there are k or fewer; there are at most 1,024.
+    /// Exit k, or none where there are k or fewer.
     pub fn get(&self, k: usize) -> Option<Exit>
-        ensures exit { result ≡ slice_get self.now k }
-        ensures few { length self.now ≤ 1024 }
+        ensures { result ≡ slice_get self.now.exits k }
     {
         self.as_slice().get(k).copied()
     }
 
     /// All of them, in order.
     pub fn as_slice(&self) -> &[Exit]
-        ensures exits { result.now ≡ self.now }
+        ensures exits { result.now ≡ self.now.exits }
         ensures few { length result.now ≤ 1024 }
     {
         &self.entries[0..self.count]
@@ -42,16 +41,14 @@ impl Exits {
 
     /// Leaves none.
     pub fn clear(&mut self)
-        ensures empty { self.new ≡ [] }
-        ensures few { length self.old ≤ 1024 }
+        ensures { self.new.exits ≡ [] }
     {
         self.count = 0;
     }
 
     /// One more at the end. Past 1,024 nothing is taken in.
     pub fn push(&mut self, exit: Exit)
-        ensures exits { self.new ≡ take 1024 (self.old ++ (exit ∷ [])) }
-        ensures few { length self.old ≤ 1024 }
+        ensures { self.new.exits ≡ take 1024 (self.old.exits ++ (exit ∷ [])) }
     {
         // Read once: a write to the entries does not change it.
         let count = self.count;

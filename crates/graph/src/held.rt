@@ -1,14 +1,18 @@
 //! The exits of one state, as a graph hands them out.
+ghost use Rattle.std.specs.Prelude.{◌≡◌, ◌≤◌, length};
+
 use crate::Exit;
 use std::marker::Model;
 
 // The most exits that a state has.
 pub(crate) const MOST: usize = 1024;
 
-/// At most 1,024 exits in order: the first `count` of the entries. A contract sees the list of them.
+/// At most 1,024 exits in order: the first `count` of the entries. A contract sees the list of them, and that they are so few.
 pub struct Exits {
     pub(crate) entries: [Exit; MOST],
     pub(crate) count: usize,
+    ghost few: { count ≤ 1024 },
+    ghost whole: { length entries ≡ 1024 },
 }
 
 // Written out and not derived: with a derived one the borrow checker does not cover a caller's `match` that drops what
@@ -23,12 +27,11 @@ impl Drop for Exits {
 }
 
 impl Model for Exits {
-    ghost use Rattle.std.specs.Prelude.{◌≡◌, ◌≤◌, List, length, take};
-    ghost use Rattle.graph.specs.declared.Exit.{Exit};
+    ghost use Rattle.std.specs.Prelude.{take};
+    ghost use Rattle.graph.specs.Buffers.{FewExits};
+    ghost use Rattle.graph.specs.Bounded.{first_few};
 
-    ghost Value = { List Exit };
+    ghost Value = { FewExits };
 
-    ghost view = { λ held. take held.count held.entries };
-
-    ghost invariant = { λ held. (held.count ≤ 1024) × (length held.entries ≡ 1024) };
+    ghost view = { λ held. record { exits = take held.count held.entries; few = first_few held.count held.entries held.few } };
 }

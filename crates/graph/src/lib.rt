@@ -33,7 +33,7 @@ pub trait Graph {
     /// All exits of state s in order, in place of what `out` held. None where the state is refused.
     fn exits(&self, s: u16, out: &mut Exits) -> Result<(), Refusal>
         ensures answer { result ≡ state_answer (meaning self.now) s }
-        ensures exits { out.new ≡ exits_of (meaning self.now) s };
+        ensures exits { out.new.exits ≡ exits_of (meaning self.now) s };
 
     /// Exit k of state s, or none where s has k exits or fewer.
     fn exit(&self, s: u16, k: u16) -> Result<Option<Exit>, Refusal>

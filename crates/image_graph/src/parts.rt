@@ -52,8 +52,8 @@ impl<'a> OpenPart<'a> {
     // All exits, into a buffer that holds none.
     pub(crate) fn push_exits(&self, out: &mut Exits)
         requires few { length (exits_read self.now) ≤ 1024 }
-        requires cleared { out.old ≡ [] }
-        ensures { out.new ≡ exits_read self.now }
+        requires cleared { out.old.exits ≡ [] }
+        ensures { out.new.exits ≡ exits_read self.now }
     {
         for piece in self.exits {
             out.push(read_exit(piece));

@@ -26,7 +26,7 @@ impl<'a, G: Graph> Model for StateTexts<'a, G> {
 
     ghost Value = { List Bytes };
 
-    ghost view = { λ texts. texts_from texts.next texts.events.now (G.meaning texts.graph.now) (G.lines texts.graph.now) };
+    ghost view = { λ texts. texts_from texts.next texts.events.now.names (G.meaning texts.graph.now) (G.lines texts.graph.now) };
 }
 
 /// The text of each state of a graph, from state 0 on.
@@ -35,7 +35,7 @@ pub fn texts_by_state<'a, G: Graph>(
     events: &'a EventList,
     graph: &'a G,
 ) -> StateTexts<'a, G>
-    ensures { result ≡ texts_from 0 events.now (G.meaning graph.now) (G.lines graph.now) }
+    ensures { result ≡ texts_from 0 events.now.names (G.meaning graph.now) (G.lines graph.now) }
 {
     StateTexts {
         heap,

@@ -9,7 +9,7 @@ use std::alloc::{AllocError, Global};
 
 /// `events N`, and `event I NAME` for each event.
 pub fn events_text(heap: Global, events: &EventList) -> Result<String, AllocError>
-    ensures { IfOk result (λ t. string_bytes t ≡ events_text events.now) }
+    ensures { IfOk result (λ t. string_bytes t ≡ events_text events.now.names) }
 {
     let mut text = String::new(heap);
     write_events(&mut text, events)?;
@@ -18,7 +18,7 @@ pub fn events_text(heap: Global, events: &EventList) -> Result<String, AllocErro
 
 // The text of an event list, behind what stands there.
 fn write_events(text: &mut String, events: &EventList) -> Result<(), AllocError>
-    ensures { OnOk result (string_bytes text.new ≡ string_bytes text.old ++ events_text events.now) }
+    ensures { OnOk result (string_bytes text.new ≡ string_bytes text.old ++ events_text events.now.names) }
 {
     let count = events.len();
     writeln!(text, "events {count}")?;

@@ -25,8 +25,8 @@ pub fn state_text<G: Graph>(
     s: u16,
     exits: &mut Exits,
 ) -> Result<String, AllocError>
-    ensures text { IfOk result (λ t. string_bytes t ≡ state_text events.now (G.meaning graph.now) (G.lines graph.now) s) }
-    ensures exits { exits.new ≡ exits_of (G.meaning graph.now) s }
+    ensures text { IfOk result (λ t. string_bytes t ≡ state_text events.now.names (G.meaning graph.now) (G.lines graph.now) s) }
+    ensures exits { exits.new.exits ≡ exits_of (G.meaning graph.now) s }
 {
     let answer = graph.exits(s, exits);
     // Only a state that is not below the number of states has no line.
@@ -47,7 +47,7 @@ fn open_text(
     line: u32,
     exits: &[Exit],
 ) -> Result<String, AllocError>
-    ensures { IfOk result (λ t. string_bytes t ≡ open_text events.now s line exits.now) }
+    ensures { IfOk result (λ t. string_bytes t ≡ open_text events.now.names s line exits.now) }
 {
     let count = exits.len();
     let mut text = format!(in heap; "state {s} line {line} exits {count}\n")?;
@@ -64,7 +64,7 @@ fn closed_text(heap: Global, s: u16, number: u8, depth: u8) -> Result<String, Al
 
 // The lines of these exits, behind what stands there.
 fn write_exits(text: &mut String, events: &EventList, exits: &[Exit]) -> Result<(), AllocError>
-    ensures { OnOk result (string_bytes text.new ≡ string_bytes text.old ++ exit_lines events.now exits.now) }
+    ensures { OnOk result (string_bytes text.new ≡ string_bytes text.old ++ exit_lines events.now.names exits.now) }
 {
     for exit in exits {
         write_exit(text, events, *exit)?;
@@ -74,7 +74,7 @@ fn write_exits(text: &mut String, events: &EventList, exits: &[Exit]) -> Result<
 
 // The line of this exit, behind what stands there.
 fn write_exit(text: &mut String, events: &EventList, exit: Exit) -> Result<(), AllocError>
-    ensures { OnOk result (string_bytes text.new ≡ string_bytes text.old ++ exit_line events.now exit) }
+    ensures { OnOk result (string_bytes text.new ≡ string_bytes text.old ++ exit_line events.now.names exit) }
 {
     let Exit { event, target } = exit;
     match events.name(event) {

@@ -31,4 +31,4 @@ pub invariant_of-result : goal.invariant_of-result
 invariant_of-result c =
     let allowed = held_events c.args.image.now c.requires in
     let s = c.loop-i.invariant in
-    record { sized = (omega arith, omega arith); formed = all_formed c.loop-i.names.items; distinct = s.distinct }
+    (record { sized = (omega arith, omega arith); formed = all_formed c.loop-i.names.items; distinct = s.distinct }, tt)

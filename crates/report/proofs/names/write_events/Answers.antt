@@ -6,7 +6,7 @@ use Rattle.report.proofs.names.write_events.Goals as goal
 
 pub loop-i-preserved : goal.loop-i-preserved
 loop-i-preserved c =
-    let names = c.args.events.now in
+    let names = c.args.events.now.names in
     let items = c.names-name-items.result.now in
     let i = c.loop-i.i in
     let listed = c.names-name-items.ensures.names in

@@ -4,4 +4,4 @@ use Rattle.report.proofs.states.write_exits.Given as goal
 
 -- what stands there and the lines that are left make the whole
 abbrev pub invariant-loop-exit : goal.invariant-loop-exit
-invariant-loop-exit l = string_bytes l.text ++ exit_lines l.events (drop l.exit-index l.exits) ≡ string_bytes l.initial.text ++ exit_lines l.events l.exits
+invariant-loop-exit l = string_bytes l.text ++ exit_lines l.events.names (drop l.exit-index l.exits) ≡ string_bytes l.initial.text ++ exit_lines l.events.names l.exits

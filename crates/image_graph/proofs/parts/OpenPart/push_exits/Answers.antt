@@ -12,7 +12,7 @@ loop-piece-preserved c =
     let many = length-map (take (i + 1) pieces) piece_exit in
     let long = length-take-le (i + 1) pieces (omega (arith, c.loop-piece-test.true)) in
     let all = length-map pieces piece_exit in
-    c.push.ensures.exits
+    c.push.ensures
     ∙ (λ k. take 1024 (c.loop-piece.invariant k ++ (c.read_exit.ensures k ∷ [])))
     ∙ ap (take 1024) (sym more)
     ∙ take_all 1024 (map piece_exit (take (i + 1) pieces)) (omega (arith, c.requires.few))
