@@ -1,4 +1,4 @@
 pub mod Meanings
 pub mod Answers
 pub mod Buffers
-pub mod Bounded
+pub mod Taking

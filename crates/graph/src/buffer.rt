@@ -50,7 +50,7 @@ impl Exits {
     pub fn push(&mut self, exit: Exit)
         ensures { self.new.exits ≡ take 1024 (self.old.exits ++ (exit ∷ [])) }
     {
-        // Read once: a write to the entries does not change it.
+        // Read once, for speed: the field would be read again behind each write to the entries.
         let count = self.count;
         if count >= MOST {
             return;

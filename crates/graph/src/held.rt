@@ -29,7 +29,7 @@ impl Drop for Exits {
 impl Model for Exits {
     ghost use Rattle.std.specs.Prelude.{take};
     ghost use Rattle.graph.specs.Buffers.{FewExits};
-    ghost use Rattle.graph.specs.Bounded.{first_few};
+    ghost use Rattle.graph.specs.Taking.{first_few};
 
     ghost Value = { FewExits };
 

@@ -1,6 +1,16 @@
-use Rattle.std.proofs.Common.{◌≡◌, [], ◌∷◌, ◌++◌, take, sym, ◌∙◌, subst, arith, ◌+◌, slice_set}
+use Rattle.std.proofs.Common.{◌≡◌, ℕ, ◌+◌, ◌<◌, List, [], ◌∷◌, ◌++◌, length, take, slice_set, sym, ap, ◌∙◌, subst, arith}
 use Rattle.std.proofs.lemmas.List.{length-take-le, length_push, take_all, take_at, take_more_set}
+use Rattle.graph.specs.declared.Exit.{Exit}
 use Rattle.graph.proofs.held.Exits.push.Goals as goal
+
+-- the first k entries, where one more is held than before
+taken : (entries : List Exit) (count k : ℕ) (x : Exit) (old : List Exit) → k ≡ count + 1 → count < length entries → count < 1024 → take count entries ≡ old → take k (slice_set entries count x) ≡ take 1024 (old ++ x ∷ [])
+taken entries count k x old one_more inside few is =
+    let l = length-take-le count entries (omega arith) in
+    let more = length_push (take count entries) x in
+    subst (λ n. take n (slice_set entries count x) ≡ take 1024 (old ++ x ∷ [])) (sym one_more)
+    (subst (λ xs. take (count + 1) (slice_set entries count x) ≡ take 1024 (xs ++ x ∷ [])) is
+    (take_more_set entries count x inside ∙ sym (take_all 1024 (take count entries ++ x ∷ []) (omega arith))))
 
 pub returns-then-count-ge-MOST : goal.returns-then-count-ge-MOST
 returns-then-count-ge-MOST c =
@@ -12,9 +22,4 @@ returns-then-count-ge-MOST c =
 pub returns : goal.returns
 returns c =
     let x = c.self.inside in
-    let held = take x.count x.entries in
-    let l = length-take-le x.count x.entries (omega (arith, x.few, x.whole)) in
-    let more = length_push held c.args.exit in
-    subst (λ e. take (x.count + 1) (slice_set x.entries x.count c.args.exit) ≡ take 1024 (e.exits ++ c.args.exit ∷ [])) c.self.view_is
-    (take_more_set x.entries x.count c.args.exit (omega (arith, x.whole))
-    ∙ sym (take_all 1024 (held ++ (c.args.exit ∷ [])) (omega arith)))
+    taken x.entries x.count _ c.args.exit c.args.self.now.exits (omega arith) (omega (arith, x.whole)) (omega arith) (ap (λ e. e.exits) c.self.view_is)
