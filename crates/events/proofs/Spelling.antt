@@ -9,6 +9,7 @@ use Rattle.name.specs.Names.{Bytes}
 use Rattle.image.specs.Images.{Valid, AtPair, image_rules}
 use Rattle.image.specs.declared.Kind.TheVariants.{Events}
 use Rattle.image.proofs.Keeping.{valid_kept}
+use Rattle.events.specs.Held.{names_in}
 use Rattle.events.specs.Images.{EventImage, Repeated, event_rules, AcceptedList}
 use Rattle.events.specs.Inner.{Gathered}
 use Rattle.events.specs.declared.held.EventList.{EventList}
@@ -37,8 +38,8 @@ image_kept bs names e =
 -- the list that was gathered from a valid image
 pub loaded_list : (bs : Bytes) (list : EventList) → Valid Events bs → Gathered bs (Ok list) → AcceptedList bs list
 loaded_list bs list v g =
-    let spelled : EventImage bs list.names = record { valid = v; counted = g.counted; spelled = g.spelled; distinct = g.distinct } in
-    record { spelled = spelled; only = λ others e. one_list bs others list.names e spelled; kept = image_kept bs list.names spelled }
+    let spelled : EventImage bs (names_in list) = record { valid = v; counted = g.counted; spelled = g.spelled; distinct = g.distinct } in
+    record { spelled = spelled; only = λ others e. one_list bs others (names_in list) e spelled; kept = image_kept bs (names_in list) spelled }
 
 -- bytes that break a rule spell no names
 pub spells_none : (bs : Bytes) (r : Refusal) → FirstBroken (event_rules bs) r → (names : List Bytes) → EventImage bs names → ⊥

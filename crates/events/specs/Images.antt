@@ -9,6 +9,7 @@ use Rattle.image.specs.Opened.{Refused}
 use Rattle.image.specs.declared.Kind.TheVariants.{Events}
 use Rattle.image.specs.declared.Rejected.{Rejected}
 use Rattle.events.specs.Lists.{Distinct}
+use Rattle.events.specs.Held.{names_in}
 use Rattle.events.specs.declared.held.EventList.{EventList}
 
 -- the bytes are an image of these names: part i is name i, and none stands twice
@@ -28,8 +29,8 @@ event_rules bs = image_rules Events bs and_then rule NameRepeated (AtPair bs (Re
 
 -- the list holds the names that the bytes spell, and they spell no others; no rule is broken
 pub record AcceptedList (bs : Bytes) (list : EventList) : Type 0 where
-  pub spelled : EventImage bs list.names
-  pub only : (names : List Bytes) → EventImage bs names → names ≡ list.names
+  pub spelled : EventImage bs (names_in list)
+  pub only : (names : List Bytes) → EventImage bs names → names ≡ names_in list
   pub kept : Kept (event_rules bs)
 
 -- the bytes come back, refused by the first rule that they break; they spell no names

@@ -7,6 +7,7 @@ use Rattle.name.specs.Names.{Bytes}
 use Rattle.image.specs.Bytes.{count_of, part_of}
 use Rattle.image.specs.Images.{AtPair}
 use Rattle.events.specs.Lists.{Distinct}
+use Rattle.events.specs.Held.{names_in}
 use Rattle.events.specs.Images.{Repeated}
 use Rattle.events.specs.declared.held.EventList.{EventList}
 
@@ -18,5 +19,5 @@ pub record Sofar (bs : Bytes) (names : List Bytes) (n : ℕ) : Type 0 where
 
 -- the list has the names of all parts, or a name is repeated
 abbrev pub Gathered : Bytes → Result EventList Refusal → Type 0
-Gathered bs (Ok list) = Sofar bs list.names (count_of bs)
+Gathered bs (Ok list) = Sofar bs (names_in list) (count_of bs)
 Gathered bs (Err why) = FirstBroken (rule NameRepeated (AtPair bs (Repeated bs)) no_more) why

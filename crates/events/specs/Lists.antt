@@ -1,6 +1,12 @@
 -- Lists of names, and the event of a name. Assumes nothing.
-use Rattle.std.specs.Prelude.{◌≡◌, ℕ, ◌<◌, ◌≤◌, List, [], length, Some, None, Option, ◌≢◌, slice_index_or}
+use Rattle.std.specs.Prelude.{◌≡◌, ℕ, ◌<◌, ◌≤◌, List, [], map, length, take, Some, None, Option, ◌≢◌, slice_index_or}
 use Rattle.name.specs.Names.{Bytes, Formed}
+use Rattle.name.specs.Held.{name_bytes}
+use Rattle.name.specs.declared.held.Name.{Name}
+
+-- the bytes of the first n names of a list
+abbrev pub first_names : ℕ → List Name → List Bytes
+first_names n entries = map name_bytes (take n entries)
 
 -- no name is listed twice
 abbrev pub Distinct : List Bytes → Type 0
@@ -11,11 +17,6 @@ pub record Listed (names : List Bytes) : Type 0 where
   pub sized : (1 ≤ length names) × (length names ≤ 64)
   pub formed : (i : ℕ) → i < length names → Formed (slice_index_or names i [])
   pub distinct : Distinct names
-
--- the names of the events, by number
-pub record EventNames : Type 0 where
-  pub names : List Bytes
-  pub listed : Listed names
 
 -- the event of a name is its place in the list
 abbrev pub EventOf : List Bytes → Bytes → Option ℕ → Type 0

@@ -8,8 +8,8 @@ ghost use Rattle.events.specs.Images.{event_rules, Loaded};
 ghost use Rattle.events.specs.Inner.{Gathered};
 
 use crate::EventList;
+use crate::held::MOST;
 use crate::reads::position;
-use arrayvec::ArrayVec;
 use image::{Image, Kind, Load, Rejected, pair_place};
 use name::Name;
 use refusal::{Reason, Refusal};
@@ -64,13 +64,14 @@ fn gather(image: &Image) -> Result<EventList, Refusal>
     requires { image.now.kind ≡ Events }
     ensures { Gathered (image_bytes image.now) result }
 {
-    let mut names = ArrayVec::new();
+    let mut entries = [Name::default(); MOST];
     for i in 0..image.count() {
         let name = name_of(image, i);
-        if position(names.as_slice(), name.as_bytes()).is_some() {
+        if position(&entries[..usize::from(i)], name.as_bytes()).is_some() {
             return Err(Refusal::at(Reason::NameRepeated, pair_place(i)));
         }
-        names.push(name);
+        entries[usize::from(i)] = name;
     }
-    Ok(EventList { names })
+    let count = usize::from(image.count());
+    Ok(EventList { entries, count })
 }

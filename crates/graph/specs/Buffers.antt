@@ -1,8 +1,8 @@
 -- The exits that a buffer holds. Assumes nothing.
-use Rattle.std.specs.Prelude.{◌≤◌, List, length}
+use Rattle.std.specs.Prelude.{List, take}
 use Rattle.graph.specs.declared.Exit.{Exit}
+use Rattle.graph.specs.declared.held.Exits.{Exits}
 
--- at most 1,024 exits, in order
-pub record FewExits : Type 0 where
-  pub exits : List Exit
-  pub few : length exits ≤ 1024
+-- the first `count` of the entries
+abbrev pub exits_in : Exits → List Exit
+exits_in held = take held.count held.entries

@@ -1,4 +1,3 @@
 pub mod Meanings
 pub mod Answers
 pub mod Buffers
-pub mod Taking

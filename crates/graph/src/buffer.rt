@@ -1,6 +1,7 @@
 //! What is done with the exits of a state.
 ghost use Rattle.std.specs.Prelude.{◌≡◌, ◌≤◌, [], ◌∷◌, ◌++◌, length, take};
 ghost use Rattle.std.specs.List.{slice_get};
+ghost use Rattle.graph.specs.Buffers.{exits_in};
 
 use crate::held::MOST;
 use crate::{Exit, Exits};
@@ -8,7 +9,7 @@ use crate::{Exit, Exits};
 impl Exits {
     /// No exits.
     pub fn new() -> Exits
-        ensures { result.exits ≡ [] }
+        ensures { exits_in result ≡ [] }
     {
         Exits {
             entries: [Exit::default(); MOST],
@@ -18,22 +19,22 @@ impl Exits {
 
     /// How many there are, at most 1,024.
     pub fn len(&self) -> usize
-        ensures count { result ≡ length self.now.exits }
-        ensures few { length self.now.exits ≤ 1024 }
+        ensures count { result ≡ length (exits_in self.now) }
+        ensures few { length (exits_in self.now) ≤ 1024 }
     {
         self.as_slice().len()
     }
 
     /// Exit k, or none where there are k or fewer.
     pub fn get(&self, k: usize) -> Option<Exit>
-        ensures { result ≡ slice_get self.now.exits k }
+        ensures { result ≡ slice_get (exits_in self.now) k }
     {
         self.as_slice().get(k).copied()
     }
 
     /// All of them, in order.
     pub fn as_slice(&self) -> &[Exit]
-        ensures exits { result.now ≡ self.now.exits }
+        ensures exits { result.now ≡ exits_in self.now }
         ensures few { length result.now ≤ 1024 }
     {
         &self.entries[0..self.count]
@@ -41,14 +42,14 @@ impl Exits {
 
     /// Leaves none.
     pub fn clear(&mut self)
-        ensures { self.new.exits ≡ [] }
+        ensures { exits_in self.new ≡ [] }
     {
         self.count = 0;
     }
 
     /// One more at the end. Past 1,024 nothing is taken in.
     pub fn push(&mut self, exit: Exit)
-        ensures { self.new.exits ≡ take 1024 (self.old.exits ++ (exit ∷ [])) }
+        ensures { exits_in self.new ≡ take 1024 (exits_in self.old ++ (exit ∷ [])) }
     {
         // Read once, for speed: the field would be read again behind each write to the entries.
         let count = self.count;

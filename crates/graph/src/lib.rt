@@ -4,6 +4,7 @@
 ghost use Rattle.std.specs.Prelude.{◌≡◌, ℕ};
 ghost use Rattle.graph.specs.Meanings.{Meaning, Bounds, LineBounds};
 ghost use Rattle.graph.specs.Answers.{state_answer, exits_of, exit_answer, line_answer};
+ghost use Rattle.graph.specs.Buffers.{exits_in};
 
 mod buffer;
 mod held;
@@ -33,7 +34,7 @@ pub trait Graph {
     /// All exits of state s in order, in place of what `out` held. None where the state is refused.
     fn exits(&self, s: u16, out: &mut Exits) -> Result<(), Refusal>
         ensures answer { result ≡ state_answer (meaning self.now) s }
-        ensures exits { out.new.exits ≡ exits_of (meaning self.now) s };
+        ensures exits { exits_in out.new ≡ exits_of (meaning self.now) s };
 
     /// Exit k of state s, or none where s has k exits or fewer.
     fn exit(&self, s: u16, k: u16) -> Result<Option<Exit>, Refusal>

@@ -1,6 +1,7 @@
 //! What stands in the part of a state.
 ghost use Rattle.std.specs.Prelude.{◌≡◌, [], ◌<◌, ◌≤◌, length};
 ghost use Rattle.std.specs.List.{slice_get};
+ghost use Rattle.graph.specs.Buffers.{exits_in};
 ghost use Rattle.image.specs.Bytes.{number32};
 ghost use Rattle.image_graph.specs.Parts.{source_line};
 ghost use Rattle.image_graph.specs.Inner.{piece_exit, exits_read, ReadFrom};
@@ -52,8 +53,8 @@ impl<'a> OpenPart<'a> {
     // All exits, into a buffer that holds none.
     pub(crate) fn push_exits(&self, out: &mut Exits)
         requires few { length (exits_read self.now) ≤ 1024 }
-        requires cleared { out.old.exits ≡ [] }
-        ensures { out.new.exits ≡ exits_read self.now }
+        requires cleared { exits_in out.old ≡ [] }
+        ensures { exits_in out.new ≡ exits_read self.now }
     {
         for piece in self.exits {
             out.push(read_exit(piece));

@@ -2,13 +2,12 @@
 ghost use Rattle.std.specs.Prelude.{◌≡◌, ℕ, ◌<◌, true, length, slice_index};
 ghost use Rattle.name.specs.Names.{in_name, NameLength};
 
-use crate::LONGEST;
-use arrayvec::ArrayString;
-
-/// A small letter followed by small letters, digits or underscores, 1 to 16 bytes.
-#[derive(Clone, Copy, PartialEq, Eq, Debug)]
+/// A small letter followed by small letters, digits or underscores, 1 to 16 bytes: the first `size` of the bytes.
+#[derive(Clone, Copy)]
 pub struct Name {
-    pub(crate) text: ArrayString<LONGEST>,
-    ghost sized: { NameLength (length text.bytes) },
-    ghost spelled: { ((k : ℕ) → k < length text.bytes → in_name k (slice_index text.bytes k) ≡ true) },
+    pub(crate) bytes: [u8; 16],
+    pub(crate) size: usize,
+    ghost whole: { length bytes ≡ 16 },
+    ghost sized: { NameLength size },
+    ghost spelled: { ((k : ℕ) → k < size → in_name k (slice_index bytes k) ≡ true) },
 }

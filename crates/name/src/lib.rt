@@ -1,14 +1,15 @@
 //! Names of events: how one is formed, and a type that holds nothing else.
 #![tactic(auto)]
 
-ghost use Rattle.std.specs.Prelude.{◌≡◌, Some, codes};
+ghost use Rattle.std.specs.Prelude.{◌≡◌, ◌≤◌, length, take, Some, codes, nat_eq};
+ghost use Rattle.std.specs.Cmp.{on_equiv, on_per, partial_equiv_from_equiv};
+ghost use Rattle.std.specs.Cmp.Lexicographic.{pointwise, nat_list_eq_equiv};
 ghost use Rattle.name.specs.Names.{in_name, FirstWrong};
 ghost use Rattle.name.specs.Held.{name_bytes, NameOf};
 
 mod held;
 
 pub use crate::held::Name;
-use arrayvec::ArrayString;
 use std::fmt;
 use std::str::from_utf8;
 
@@ -33,6 +34,17 @@ fn may_stand(k: usize, b: u8) -> bool
     }
 }
 
+// The bytes, and zeros behind them.
+fn padded(word: &[u8]) -> [u8; 16]
+    requires { length word.now ≤ 16 }
+    ensures whole { length result ≡ 16 }
+    ensures front { take (length word.now) result ≡ word.now }
+{
+    let mut bytes = [0; 16];
+    bytes[0..word.len()].copy_from_slice(word);
+    bytes
+}
+
 /// A word that is no name.
 #[derive(Clone, Copy, PartialEq, Eq, Debug)]
 pub struct NoName;
@@ -44,12 +56,12 @@ impl TryFrom<&[u8]> for Name {
 
     /// The name that these bytes spell, if they do.
     fn try_from(word: &[u8]) -> Result<Name, NoName> {
-        if word.is_empty() || word.len() > LONGEST || first_wrong(word).is_some() {
+        let size = word.len();
+        if size < 1 || size > LONGEST || first_wrong(word).is_some() {
             return Err(NoName);
         }
-        let text = from_utf8(word).unwrap();
-        let text = ArrayString::from(text).unwrap();
-        Ok(Name { text })
+        let bytes = padded(word);
+        Ok(Name { bytes, size })
     }
 }
 
@@ -58,15 +70,33 @@ impl Name {
     pub fn as_bytes(&self) -> &[u8]
         ensures { result.now ≡ name_bytes self.now }
     {
-        self.as_str().as_bytes()
+        &self.bytes[0..self.size]
     }
 
     /// Its text.
     pub fn as_str(&self) -> &str
         ensures { result.now ≡ name_bytes self.now }
     {
-        self.text.as_str()
+        match from_utf8(self.as_bytes()) {
+            Ok(text) => text,
+            Err(_) => "",
+        }
     }
+}
+
+impl PartialEq for Name {
+    ghost eq = { λ a b. pointwise nat_eq (name_bytes a) (name_bytes b) };
+
+    ghost laws = { on_per name_bytes (partial_equiv_from_equiv nat_list_eq_equiv) };
+
+    /// Whether they have the same bytes.
+    fn eq(&self, other: &Name) -> bool {
+        self.as_bytes() == other.as_bytes()
+    }
+}
+
+impl Eq for Name {
+    ghost laws = { on_equiv name_bytes nat_list_eq_equiv };
 }
 
 impl Default for Name {
@@ -75,7 +105,8 @@ impl Default for Name {
     /// The shortest name that comes first, `a`: it fills the places of a list that hold no name yet.
     fn default() -> Name {
         Name {
-            text: ArrayString::from("a").unwrap(),
+            bytes: padded(b"a"),
+            size: 1,
         }
     }
 }
@@ -86,5 +117,14 @@ impl fmt::Display for Name {
     /// Its text.
     fn fmt<W: fmt::Write>(&self, f: &mut fmt::Formatter<W>) -> fmt::Result {
         f.write_str(self.as_str())
+    }
+}
+
+impl fmt::Debug for Name {
+    /// As a struct whose one field is the text.
+    fn fmt<W: fmt::Write>(&self, f: &mut fmt::Formatter<W>) -> fmt::Result {
+        f.debug_struct("Name")
+            .field("text", &self.as_str())
+            .finish()
     }
 }

@@ -1,6 +1,7 @@
 //! The texts of all states of a graph, one after another.
 ghost use Rattle.std.specs.Prelude.{◌≡◌, length};
 ghost use Rattle.std.specs.Iterator.{at_most};
+ghost use Rattle.events.specs.Held.{names_in};
 ghost use Rattle.report.specs.Texts.{NextText, texts_from};
 
 use crate::states::state_text;
@@ -22,11 +23,12 @@ pub struct StateTexts<'a, G: Graph> {
 impl<'a, G: Graph> Model for StateTexts<'a, G> {
     ghost use Rattle.std.specs.Prelude.{List};
     ghost use Rattle.name.specs.Names.{Bytes};
+    ghost use Rattle.events.specs.Held.{names_in};
     ghost use Rattle.report.specs.Texts.{texts_from};
 
     ghost Value = { List Bytes };
 
-    ghost view = { λ texts. texts_from texts.next texts.events.now.names (G.meaning texts.graph.now) (G.lines texts.graph.now) };
+    ghost view = { λ texts. texts_from texts.next (names_in texts.events.now) (G.meaning texts.graph.now) (G.lines texts.graph.now) };
 }
 
 /// The text of each state of a graph, from state 0 on.
@@ -35,7 +37,7 @@ pub fn texts_by_state<'a, G: Graph>(
     events: &'a EventList,
     graph: &'a G,
 ) -> StateTexts<'a, G>
-    ensures { result ≡ texts_from 0 events.now.names (G.meaning graph.now) (G.lines graph.now) }
+    ensures { result ≡ texts_from 0 (names_in events.now) (G.meaning graph.now) (G.lines graph.now) }
 {
     StateTexts {
         heap,

@@ -1,5 +1,6 @@
 //! The text of an event list.
 ghost use Rattle.std.specs.Prelude.{◌≡◌, ◌++◌, IfOk, string_bytes, OnOk};
+ghost use Rattle.events.specs.Held.{names_in};
 ghost use Rattle.name.specs.Held.{name_bytes};
 ghost use Rattle.report.specs.Texts.{events_text, event_line};
 
@@ -9,7 +10,7 @@ use std::alloc::{AllocError, Global};
 
 /// `events N`, and `event I NAME` for each event.
 pub fn events_text(heap: Global, events: &EventList) -> Result<String, AllocError>
-    ensures { IfOk result (λ t. string_bytes t ≡ events_text events.now.names) }
+    ensures { IfOk result (λ t. string_bytes t ≡ events_text (names_in events.now)) }
 {
     let mut text = String::new(heap);
     write_events(&mut text, events)?;
@@ -18,7 +19,7 @@ pub fn events_text(heap: Global, events: &EventList) -> Result<String, AllocErro
 
 // The text of an event list, behind what stands there.
 fn write_events(text: &mut String, events: &EventList) -> Result<(), AllocError>
-    ensures { OnOk result (string_bytes text.new ≡ string_bytes text.old ++ events_text events.now.names) }
+    ensures { OnOk result (string_bytes text.new ≡ string_bytes text.old ++ events_text (names_in events.now)) }
 {
     let count = events.len();
     writeln!(text, "events {count}")?;

@@ -1,6 +1,8 @@
 //! The texts of a graph's states.
 ghost use Rattle.std.specs.Prelude.{◌≡◌, ◌++◌, IfOk, string_bytes, OnOk};
+ghost use Rattle.events.specs.Held.{names_in};
 ghost use Rattle.graph.specs.Answers.{exits_of};
+ghost use Rattle.graph.specs.Buffers.{exits_in};
 ghost use Rattle.report.specs.Texts.{states_text, state_text, open_text, closed_line, exit_line, exit_lines};
 
 use events::EventList;
@@ -25,8 +27,8 @@ pub fn state_text<G: Graph>(
     s: u16,
     exits: &mut Exits,
 ) -> Result<String, AllocError>
-    ensures text { IfOk result (λ t. string_bytes t ≡ state_text events.now.names (G.meaning graph.now) (G.lines graph.now) s) }
-    ensures exits { exits.new.exits ≡ exits_of (G.meaning graph.now) s }
+    ensures text { IfOk result (λ t. string_bytes t ≡ state_text (names_in events.now) (G.meaning graph.now) (G.lines graph.now) s) }
+    ensures exits { exits_in exits.new ≡ exits_of (G.meaning graph.now) s }
 {
     let answer = graph.exits(s, exits);
     // Only a state that is not below the number of states has no line.
@@ -47,7 +49,7 @@ fn open_text(
     line: u32,
     exits: &[Exit],
 ) -> Result<String, AllocError>
-    ensures { IfOk result (λ t. string_bytes t ≡ open_text events.now.names s line exits.now) }
+    ensures { IfOk result (λ t. string_bytes t ≡ open_text (names_in events.now) s line exits.now) }
 {
     let count = exits.len();
     let mut text = format!(in heap; "state {s} line {line} exits {count}\n")?;
@@ -64,7 +66,7 @@ fn closed_text(heap: Global, s: u16, number: u8, depth: u8) -> Result<String, Al
 
 // The lines of these exits, behind what stands there.
 fn write_exits(text: &mut String, events: &EventList, exits: &[Exit]) -> Result<(), AllocError>
-    ensures { OnOk result (string_bytes text.new ≡ string_bytes text.old ++ exit_lines events.now.names exits.now) }
+    ensures { OnOk result (string_bytes text.new ≡ string_bytes text.old ++ exit_lines (names_in events.now) exits.now) }
 {
     for exit in exits {
         write_exit(text, events, *exit)?;
@@ -74,7 +76,7 @@ fn write_exits(text: &mut String, events: &EventList, exits: &[Exit]) -> Result<
 
 // The line of this exit, behind what stands there.
 fn write_exit(text: &mut String, events: &EventList, exit: Exit) -> Result<(), AllocError>
-    ensures { OnOk result (string_bytes text.new ≡ string_bytes text.old ++ exit_line events.now.names exit) }
+    ensures { OnOk result (string_bytes text.new ≡ string_bytes text.old ++ exit_line (names_in events.now) exit) }
 {
     let Exit { event, target } = exit;
     match events.name(event) {

@@ -1,12 +1,13 @@
 use Rattle.std.proofs.Common.{◌≡◌, [], length, get_or, sym, ap, ◌∙◌, arith}
 use Rattle.std.proofs.lemmas.List.{get_or-map, length-map}
 use Rattle.name.specs.Held.{name_bytes}
+use Rattle.events.specs.Held.{names_in}
 use Rattle.report.proofs.Lines.{event_more}
 use Rattle.report.proofs.names.write_events.Goals as goal
 
 pub loop-i-preserved : goal.loop-i-preserved
 loop-i-preserved c =
-    let names = c.args.events.now.names in
+    let names = names_in c.args.events.now in
     let items = c.names-name-items.result.now in
     let i = c.loop-i.i in
     let listed = c.names-name-items.ensures.names in

@@ -1,4 +1,4 @@
-use Rattle.std.proofs.Common.{◌≡◌, ℕ, ◌+◌, ◌<◌, List, [], ◌∷◌, ◌++◌, length, take, slice_set, sym, ap, ◌∙◌, subst, arith}
+use Rattle.std.proofs.Common.{◌≡◌, ℕ, ◌+◌, ◌<◌, List, [], ◌∷◌, ◌++◌, length, take, slice_set, sym, refl, ◌∙◌, subst, arith}
 use Rattle.std.proofs.lemmas.List.{length-take-le, length_push, take_all, take_at, take_more_set}
 use Rattle.graph.specs.declared.Exit.{Exit}
 use Rattle.graph.proofs.held.Exits.push.Goals as goal
@@ -14,12 +14,11 @@ taken entries count k x old one_more inside few is =
 
 pub returns-then-count-ge-MOST : goal.returns-then-count-ge-MOST
 returns-then-count-ge-MOST c =
-    let x = c.self.inside in
+    let x = c.args.self.now in
     let l = length-take-le x.count x.entries (omega (arith, x.few, x.whole)) in
-    subst (λ held. held.exits ≡ take 1024 (held.exits ++ c.args.exit ∷ [])) c.self.view_is
-    (sym (take_at (take x.count x.entries) (c.args.exit ∷ []) 1024 (omega (arith, x.few))))
+    sym (take_at (take x.count x.entries) (c.args.exit ∷ []) 1024 (omega (arith, x.few)))
 
 pub returns : goal.returns
 returns c =
-    let x = c.self.inside in
-    taken x.entries x.count _ c.args.exit c.args.self.now.exits (omega arith) (omega (arith, x.whole)) (omega arith) (ap (λ e. e.exits) c.self.view_is)
+    let x = c.args.self.now in
+    taken x.entries x.count _ c.args.exit (take x.count x.entries) (omega arith) (omega (arith, x.whole)) (omega arith) refl
