@@ -67,6 +67,8 @@ fn names_are_formed(rt: HostRuntime) -> Result<(), Fail> {
     let long = Name::try_from(b"abcdefghij_12345".as_slice())?;
     assert_eq!(rt; long.as_str(), "abcdefghij_12345");
     assert_eq!(rt; long.to_string(rt.alloc())?.as_str(), "abcdefghij_12345");
+    let shown = format!(in rt.alloc(); "{long:?}")?;
+    assert_eq!(rt; shown.as_str(), "Name { text: \"abcdefghij_12345\" }");
     assert_eq!(rt; Name::try_from(b"a".as_slice()), Ok(Name::default()));
     assert_eq!(rt; Name::try_from(b"".as_slice()), Err(NoName));
     assert_eq!(rt;
