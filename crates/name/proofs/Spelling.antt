@@ -1,10 +1,10 @@
 -- What the bytes of a name are. Assumes nothing.
-use Rattle.std.proofs.Common.{◌≡◌, ℕ, ◌<◌, true, false, length, get_or, take, is_some, Some, None, Option, Ok, Err, Result, IsOk, IsUtf8, refl, sym, ap, ◌∙◌, subst, arith}
+use Rattle.std.proofs.Common.{◌≡◌, ℕ, ◌<◌, true, length, get_or, take, Ok, Err, Result, IsOk, IsUtf8, refl, sym, ap, ◌∙◌, subst, arith}
 use Rattle.std.proofs.lemmas.List.{get_or-take, length-take-le}
 use Rattle.std.proofs.lemmas.Str.Ascii.{IsAscii-from_reads}
 use Rattle.std.proofs.lemmas.Str.{IsUtf8-from_ascii}
 use Rattle.std.proofs.lemmas.Bool.Decides.{nat_tests}
-use Rattle.name.specs.Names.{Bytes, in_name, NameLength, Formed, FirstWrong}
+use Rattle.name.specs.Names.{Bytes, in_name, NameLength, Formed}
 use Rattle.name.specs.Held.{name_bytes, NameOf}
 use Rattle.name.specs.declared.held.Name.{Name}
 use Rattle.name.specs.declared.NoName.{NoName}
@@ -34,11 +34,6 @@ pub spelled_by : (bytes w : Bytes) (n : ℕ) → n ≡ length w → take (length
 spelled_by bytes w n e front right k h =
     let m : k < length w = omega arith in
     ap (in_name k) (sym (get_or-take (length w) bytes k 0 m) ∙ ap (λ l. get_or l k 0) front) ∙ right k m
-
--- no byte is wrong
-pub all_right : (w : Bytes) (r : Option ℕ) → FirstWrong w r → false ≡ is_some r → (k : ℕ) → k < length w → in_name k (get_or w k 0) ≡ true
-all_right w None h e = h
-all_right w (Some j) h e = let z : ◌≡◌ {A = ℕ} 0 1 = cc in absurd (omega arith)
 
 -- bytes that are formed as a name are made one
 pub made : (w : Bytes) (r : Result Name NoName) → NameOf w r → Formed w → IsOk r
