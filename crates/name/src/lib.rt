@@ -35,12 +35,12 @@ fn may_stand(k: usize, b: u8) -> bool
 }
 
 // The bytes, and zeros behind them.
-fn padded(word: &[u8]) -> [u8; 16]
+fn padded(word: &[u8]) -> [u8; LONGEST]
     requires { length word.now ≤ 16 }
     ensures whole { length result ≡ 16 }
     ensures front { take (length word.now) result ≡ word.now }
 {
-    let mut bytes = [0; 16];
+    let mut bytes = [0; LONGEST];
     bytes[0..word.len()].copy_from_slice(word);
     bytes
 }

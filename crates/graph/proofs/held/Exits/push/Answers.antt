@@ -1,6 +1,7 @@
 use Rattle.std.proofs.Common.{◌≡◌, ℕ, ◌+◌, ◌<◌, List, [], ◌∷◌, ◌++◌, length, take, slice_set, sym, refl, ◌∙◌, subst, arith}
 use Rattle.std.proofs.lemmas.List.{length-take-le, length_push, take_all, take_at, take_more_set}
 use Rattle.graph.specs.declared.Exit.{Exit}
+use Rattle.graph.proofs.Lengths.{held_length}
 use Rattle.graph.proofs.held.Exits.push.Goals as goal
 
 -- the first k entries, where one more is held than before
@@ -15,7 +16,7 @@ taken entries count k x old one_more inside few is =
 pub returns-then-count-ge-MOST : goal.returns-then-count-ge-MOST
 returns-then-count-ge-MOST c =
     let x = c.args.self.now in
-    let l = length-take-le x.count x.entries (omega (arith, x.few, x.whole)) in
+    let l = held_length x in
     sym (take_at (take x.count x.entries) (c.args.exit ∷ []) 1024 (omega (arith, x.few)))
 
 pub returns : goal.returns
